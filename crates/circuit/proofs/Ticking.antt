@@ -1,0 +1,183 @@
+-- The tick: what its refusals leave out, and that what is stored is the circuit's next state and lamps. Assumes nothing.
+use mathlib.Core.Path.{_≡_, refl, sym, ap, ap₂, _∙_}
+use mathlib.Core.Bool.{Bool, true, false, _&&_}
+use mathlib.Core.List.{List, [], _∷_, _++_, map}
+use Prim.Native.Nat.{ℕ, zero, suc, _+_, _*_, _<_, _≤_}
+use native.Mathlib.Nat.{zero-add, add-zero}
+use native.Mathlib.Omega.{arith}
+use borrow.Author.Tests.{leb-true, ltb-true, le-leb, lt-leb}
+use lib.Dec.{leb, ltb}
+use lib.ListN.{length, getD, take, length-append}
+use Rattle.three.specs.Lists.{tabulate, every, over}
+use Rattle.three.specs.Value.{Three, ternary}
+use Rattle.three.specs.Cube.{Cube}
+use Rattle.three.specs.Record.{bytesFor, pack, unpack, sound, IsRecord}
+use Rattle.three.proofs.Lists.{and-parts, every-at, length-tabulate, map-tabulate, tabulate-ext}
+use Rattle.three.proofs.Pack.{length-unpack}
+use Rattle.circuit.specs.declared.Counts.{Counts}
+use Rattle.circuit.specs.Circuit.{Gate, value, pass, settle, next, lamps}
+use Rattle.circuit.specs.Refusal.{Test, _or_, refusal, Passed, accepted}
+use Rattle.circuit.specs.Table.{top, tableLength, ceilingTests, kinds, tableTests, latchKept, lampKept, gateKept, gatesFrom, circuitOf, Bounded, Legal}
+use Rattle.circuit.specs.Working.{valuesOf, Working, Begins, Readable, literalValues}
+use Rattle.circuit.specs.Tick.{circuitTests, recordTests, resultTests, Given, tickTests, nextFields, lampFields, Ticked}
+use Rattle.circuit.proofs.Refusals.{Numbered, stops, past, none, passes, passed-append, refusal-append, append-past}
+use Rattle.circuit.proofs.Rules.{Latches, Lamps, Gates, table-rules}
+use Rattle.circuit.proofs.Values.{value-take}
+
+-- ---- a circuit that is not refused is legal
+
+module _ (c : Counts) (table : List ℕ) where
+  legal-passed : Passed (circuitTests c table) → Legal c table
+  unfolding circuitTests ceilingTests latchKept lampKept gateKept
+  legal-passed p =
+      let rules = and-parts (Latches c table) (Lamps c table && Gates c table) (sym (table-rules c table) ∙ p .1 .1 .1 .1 .1 .0) in
+      let others = and-parts (Lamps c table) (Gates c table) (rules .1) in
+      let latch = every-at _ _ (rules .0) in
+      let lamp = every-at _ _ (others .0) in
+      let gate = every-at _ _ (others .1) in
+      record {
+        bounded = record {
+          inputs = leb-true (c .inputs) 256 (p .0);
+          latches = leb-true (c .latches) 512 (p .1 .0);
+          lamps = leb-true (c .lamps) 64 (p .1 .1 .0);
+          gates = leb-true (c .gates) 3327 (p .1 .1 .1 .0);
+        };
+        long = leb-true (tableLength c) (length table) (p .1 .1 .1 .1 .0);
+        next = λ k h. leb-true _ _ (and-parts (leb (getD table (2 * k) 0) (top c)) _ (latch k h) .0);
+        reset = λ k h. leb-true _ _ (and-parts (leb (getD table (2 * k) 0) (top c)) _ (latch k h) .1);
+        lamp = λ k h. leb-true _ _ (lamp k h);
+        left = λ k h.
+            let own : ℕ = 2 * (1 + c .inputs + c .latches) + 2 * k in
+            let below : getD table (2 * c .latches + c .lamps + 2 * k) 0 < own = ltb-true _ _ (and-parts (ltb (getD table (2 * c .latches + c .lamps + 2 * k) 0) own) _ (gate k h) .0) in omega arith;
+        right = λ k h.
+            let own : ℕ = 2 * (1 + c .inputs + c .latches) + 2 * k in
+            let below : getD table (2 * c .latches + c .lamps + 2 * k + 1) 0 < own = ltb-true _ _ (and-parts (ltb (getD table (2 * c .latches + c .lamps + 2 * k) 0) own) _ (gate k h) .1) in omega arith;
+      }
+
+  circuit-numbered : Numbered (circuitTests c table)
+  unfolding circuitTests ceilingTests
+  circuit-numbered = omega arith
+
+  pub legal : 0 ≡ refusal (circuitTests c table) → Legal c table
+  legal e = legal-passed (passes (circuitTests c table) circuit-numbered e)
+
+-- ---- records that are not refused
+
+module _ (c : Counts) (state switches : List ℕ) where
+  pub state-short : length state < bytesFor (c .latches) → 10 ≡ refusal (recordTests c state switches)
+  unfolding recordTests
+  state-short h = stops _ _ (lt-leb (bytesFor (c .latches)) (length state) h)
+
+  pub switches-short : bytesFor (c .latches) ≤ length state → length switches < bytesFor (c .inputs) → 10 ≡ refusal (recordTests c state switches)
+  unfolding recordTests
+  switches-short l h = past _ _ (le-leb (bytesFor (c .latches)) (length state) l) (stops _ _ (lt-leb (bytesFor (c .inputs)) (length switches) h))
+
+  module _ (l : bytesFor (c .latches) ≤ length state) (i : bytesFor (c .inputs) ≤ length switches) where
+    past-lengths : (ts : List Test) {k : ℕ} → k ≡ refusal ts → k ≡ refusal (leb (bytesFor (c .latches)) (length state) or 10 ∷ leb (bytesFor (c .inputs)) (length switches) or 10 ∷ ts)
+    past-lengths ts e = past _ _ (le-leb (bytesFor (c .latches)) (length state) l) (past _ _ (le-leb (bytesFor (c .inputs)) (length switches) i) e)
+
+    pub state-bad : sound (c .latches) state ≡ false → 14 ≡ refusal (recordTests c state switches)
+    unfolding recordTests
+    state-bad h = past-lengths _ (stops _ _ h)
+
+    pub switches-bad : sound (c .latches) state ≡ true → sound (c .inputs) switches ≡ false → 14 ≡ refusal (recordTests c state switches)
+    unfolding recordTests
+    switches-bad s h = past-lengths _ (past _ _ s (stops _ _ h))
+
+    pub records-pass : sound (c .latches) state ≡ true → sound (c .inputs) switches ≡ true → 0 ≡ refusal (recordTests c state switches)
+    unfolding recordTests
+    records-pass s h = past-lengths _ (past _ _ s (past _ _ h none))
+
+  record-numbered : Numbered (recordTests c state switches)
+  unfolding recordTests
+  record-numbered = omega arith
+
+  given-records : Passed (recordTests c state switches) → IsRecord (c .latches) state × IsRecord (c .inputs) switches
+  unfolding recordTests
+  given-records p = (
+    record { fits = leb-true (bytesFor (c .latches)) (length state) (p .0); good = p .1 .1 .0 },
+    record { fits = leb-true (bytesFor (c .inputs)) (length switches) (p .1 .0); good = p .1 .1 .1 .0 },
+  )
+
+-- ---- all refusals, in order
+
+module _ (c : Counts) (table state switches : List ℕ) (n l : ℕ) where
+  abbrev number : ℕ
+  number = refusal (tickTests c table state switches n l)
+
+  pub circuit-refuses : (k : ℕ) → k ≡ refusal (circuitTests c table) → (k ≡ 0 → ⊥) → k ≡ number
+  unfolding tickTests
+  circuit-refuses zero e h = absurd (h refl)
+  circuit-refuses (suc k) e h = refusal-append _ _ (sym e)
+
+  module _ (circuit-passes : 0 ≡ refusal (circuitTests c table)) where
+    past-circuit : (ts : List Test) {k : ℕ} → k ≡ refusal ts → k ≡ refusal (circuitTests c table ++ ts)
+    past-circuit ts = append-past (circuitTests c table) ts (passes (circuitTests c table) (circuit-numbered c table) circuit-passes)
+
+    pub records-refuse : (k : ℕ) → k ≡ refusal (recordTests c state switches) → (k ≡ 0 → ⊥) → k ≡ number
+    unfolding tickTests
+    records-refuse zero e h = absurd (h refl)
+    records-refuse (suc k) e h = past-circuit _ (refusal-append _ _ (sym e))
+
+    module _ (records-pass : 0 ≡ refusal (recordTests c state switches)) where
+      past-records : (ts : List Test) {k : ℕ} → k ≡ refusal ts → k ≡ refusal (circuitTests c table ++ (recordTests c state switches ++ ts))
+      past-records ts e = past-circuit _ (append-past (recordTests c state switches) ts (passes (recordTests c state switches) (record-numbered c state switches) records-pass) e)
+
+      pub next-short : n < bytesFor (c .latches) → 10 ≡ number
+      unfolding tickTests resultTests
+      next-short h = past-records _ (stops _ _ (lt-leb (bytesFor (c .latches)) n h))
+
+      pub lamps-short : bytesFor (c .latches) ≤ n → l < bytesFor (c .lamps) → 10 ≡ number
+      unfolding tickTests resultTests
+      lamps-short g h = past-records _ (past _ _ (le-leb (bytesFor (c .latches)) n g) (stops _ _ (lt-leb (bytesFor (c .lamps)) l h)))
+
+      pub tick-passes : bytesFor (c .latches) ≤ n → bytesFor (c .lamps) ≤ l → 0 ≡ number
+      unfolding tickTests resultTests
+      tick-passes g h = past-records _ (past _ _ (le-leb (bytesFor (c .latches)) n g) (past _ _ (le-leb (bytesFor (c .lamps)) l h) none))
+
+  -- what holds where nothing is refused
+  pub record Accepted : Type 0 where
+    pub legal-circuit : Legal c table
+    pub given-state : IsRecord (c .latches) state
+    pub given-switches : IsRecord (c .inputs) switches
+    pub next-fits : bytesFor (c .latches) ≤ n
+    pub lamps-fit : bytesFor (c .lamps) ≤ l
+
+  tick-numbered : Numbered (tickTests c table state switches n l)
+  unfolding tickTests circuitTests ceilingTests recordTests resultTests
+  tick-numbered = omega arith
+
+  pub accepted-tick : 0 ≡ number → Accepted
+  unfolding tickTests resultTests
+  accepted-tick e =
+      let p = passed-append (circuitTests c table) _ (passes (tickTests c table state switches n l) tick-numbered e) in
+      let q = passed-append (recordTests c state switches) _ (p .1) in
+      let given = given-records c state switches (q .0) in
+      record {
+        legal-circuit = legal-passed c table (p .0);
+        given-state = given .0;
+        given-switches = given .1;
+        next-fits = leb-true (bytesFor (c .latches)) n (q .1 .0);
+        lamps-fit = leb-true (bytesFor (c .lamps)) l (q .1 .1 .0);
+      }
+
+-- ---- what the tick leaves
+
+refused-old : {A : Type 0} (k : ℕ) (new old : A) → (k ≡ 0 → ⊥) → old ≡ accepted k new old
+unfolding accepted
+refused-old zero new old h = absurd (h refl)
+refused-old (suc k) new old h = refl
+
+accepted-new : {A : Type 0} (k : ℕ) (new old : A) → k ≡ 0 → new ≡ accepted k new old
+unfolding accepted
+accepted-new k new old z = rw z
+
+module _ (g : Given) {k : ℕ} (answer : k ≡ refusal (tickTests (g .counts) (g .table) (g .state) (g .switches) (length (g .next)) (length (g .lamps)))) where
+  pub tick-refused : (k ≡ 0 → ⊥) → Ticked g k (g .next) (g .lamps)
+  tick-refused h = record { answers = answer; fills-next = refused-old k _ _ h; fills-lamps = refused-old k _ _ h }
+
+  pub tick-done : k ≡ 0 → {next lamps : List ℕ}
+      → next ≡ over (pack (nextFields (g .counts) (g .table) (g .state) (g .switches))) (g .next)
+      → lamps ≡ over (pack (lampFields (g .counts) (g .table) (g .state) (g .switches))) (g .lamps)
+      → Ticked g k next lamps
+  tick-done z n l = record { answers = answer; fills-next = n ∙ accepted-new k _ _ z; fills-lamps = l ∙ accepted-new k _ _ z }

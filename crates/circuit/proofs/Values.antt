@@ -1,0 +1,129 @@
+-- Laws of the working table, of a literal's value, and of the records that are loaded into it and stored from it. Assumes nothing.
+use mathlib.Core.Path.{_≡_, refl, sym, ap, ap₂, _∙_}
+use mathlib.Core.List.{List, [], _∷_, map}
+use Prim.Native.Nat.{ℕ, zero, suc, _+_, _*_, _/_, _%_, _<_, _≤_}
+use native.Mathlib.Nat.{le-of-suc-le-suc, not-suc-le-zero, zero-add}
+use native.Mathlib.Omega.{arith}
+use lib.ListN.{length, getD, set, take, length-set, length-map, List·getD-map}
+use lib.Seq.{getD-take}
+use Rattle.three.specs.Lists.{over}
+use Rattle.three.specs.Record.{bytesFor, byteOf, byteAt, pack, pairAt, unpack, IsRecord}
+use Rattle.three.specs.Value.{Three, unknown, low, code, decode, inverse, ternary}
+use Rattle.three.proofs.Lists.{Stored, stored-next, stored-last, over-paste, length-tabulate, getD-tabulate, getD-beyond}
+use Rattle.three.proofs.Pack.{code-decode, code-small, decode-code, length-pack, getD-pack, length-unpack, sound-pair}
+use Rattle.circuit.specs.Circuit.{signed, value}
+use Rattle.circuit.specs.Working.{valuesOf, Working, Holding, literalValues}
+
+-- ---- codes
+
+pub is-small : {r : ℕ} (v : Three) → r ≡ code v → r < 3
+is-small v e = rw e (code-small v)
+
+pub is-decoded : {r : ℕ} (v : Three) → r ≡ code v → decode r ≡ v
+is-decoded v e = rw e (decode-code v)
+
+-- ---- a variable read, and written
+
+-- within a list the default does not matter
+getD-any : {A : Type 0} (l : List A) (i : ℕ) (d e : A) → i < length l → getD l i d ≡ getD l i e
+getD-any [] i d e h = absurd (not-suc-le-zero h)
+getD-any (x ∷ l) zero d e h = refl
+getD-any (x ∷ l) (suc i) d e h = getD-any l i d e (le-of-suc-le-suc h)
+
+pub variable-value : (table : List ℕ) (v : ℕ) → v < 4096 → Working table → getD table v 0 ≡ code (getD (valuesOf table) v low)
+unfolding valuesOf decode
+variable-value table v h w =
+    sym (code-decode _ (w .codes v))
+    ∙ ap code (ap decode (getD-any table v 0 1 (omega (arith, w .long))) ∙ sym (List·getD-map decode table v 1))
+
+codes-set : (l : List ℕ) (i x : ℕ) → x < 3 → ((j : ℕ) → getD l j 0 < 3) → (j : ℕ) → getD (set l i x) j 0 < 3
+codes-set [] i x s h j = h j
+codes-set (y ∷ l) zero x s h zero = s
+codes-set (y ∷ l) zero x s h (suc j) = h (suc j)
+codes-set (y ∷ l) (suc i) x s h zero = h zero
+codes-set (y ∷ l) (suc i) x s h (suc j) = codes-set l i x s (λ k. h (suc k)) j
+
+map-set : {A B : Type 0} (f : A → B) (l : List A) (i : ℕ) (a : A) → map f (set l i a) ≡ set (map f l) i (f a)
+map-set f [] i a = refl
+map-set f (x ∷ l) zero a = refl
+map-set f (x ∷ l) (suc i) a = ap (λ m. f x ∷ m) (map-set f l i a)
+
+pub put-holds : (table : List ℕ) (v x : ℕ) → x < 3 → Working table → Holding (set table v x) (set (valuesOf table) v (decode x))
+unfolding valuesOf
+put-holds table v x s w = record {
+  working = record { long = length-set table v x ∙ w .long; codes = codes-set table v x s (w .codes) };
+  same = map-set decode table v x;
+}
+
+pub length-values : (table : List ℕ) → length (valuesOf table) ≡ length table
+unfolding valuesOf
+length-values table = length-map table decode
+
+-- ---- a literal's value
+
+module _ (values : List Three) (x : ℕ) where
+  pub value-even : x % 2 ≡ 0 → getD values (x / 2) low ≡ value ternary values x
+  unfolding value signed ternary
+  value-even e = rw e
+
+  pub value-odd : (x % 2 ≡ 0 → ⊥) → inverse (getD values (x / 2) low) ≡ value ternary values x
+  unfolding value signed ternary
+  value-odd e = let o : x % 2 ≡ 1 = omega arith in rw o
+
+  -- a literal below 2 n is read from the first n values
+  pub value-take : (n : ℕ) → x < 2 * n → value ternary (take n values) x ≡ value ternary values x
+  unfolding value ternary
+  value-take n h = ap (signed ternary (x % 2)) (getD-take n values (x / 2) low (omega arith))
+
+-- ---- a record's fields, loaded in turn
+
+pub field-small : (bytes : List ℕ) (count i : ℕ) {x : ℕ} → IsRecord count bytes → i < count → x ≡ pairAt bytes i → x < 3
+field-small bytes count i r h e = rw e (sound-pair count bytes (r .good) i (omega arith))
+
+pub load-next : (bytes : List ℕ) (first count : ℕ) (table₀ : List ℕ) → first + count ≤ 4096 → Working table₀
+    → (vs : List Three) (i x : ℕ) → Stored (valuesOf table₀) first (unpack count bytes) count vs i → i < count → x ≡ pairAt bytes i
+    → Stored (valuesOf table₀) first (unpack count bytes) count (set vs (first + i) (decode x)) (i + 1)
+unfolding unpack
+load-next bytes first count table₀ room w vs i x s h e =
+    stored-next _ _ _ _ (omega (arith, length-values table₀, w .long)) (omega (arith, length-unpack count bytes)) vs i (decode x) unknown s h
+    (ap decode e ∙ sym (getD-tabulate count _ i unknown h))
+
+-- ---- literals' values, stored as a record
+
+module _ (values : List Three) (words : List ℕ) (at step count : ℕ) where
+  pub length-literals : length (literalValues values words at step count) ≡ count
+  unfolding literalValues
+  length-literals = length-tabulate count _
+
+  pub literal-within : (i : ℕ) → i < count → value ternary values (getD words (at + step * i) 0) ≡ getD (literalValues values words at step count) i unknown
+  unfolding literalValues
+  literal-within i h = sym (getD-tabulate count _ i unknown h)
+
+  pub literal-beyond : (i : ℕ) → count ≤ i → 0 ≡ code (getD (literalValues values words at step count) i unknown)
+  unfolding literalValues code
+  literal-beyond i h = ap code (sym (getD-beyond count _ i unknown h))
+
+  abbrev bytes : List ℕ
+  bytes = pack (literalValues values words at step count)
+
+  length-bytes : length bytes ≡ bytesFor count
+  length-bytes = rw (length-pack, length-literals)
+
+  pub store-next : (out₀ out : List ℕ) (k byte : ℕ) → bytesFor count ≤ length out₀ → Stored out₀ 0 bytes (bytesFor count) out k → k < bytesFor count
+      → byte ≡ byteAt (literalValues values words at step count) k → Stored out₀ 0 bytes (bytesFor count) (set out k byte) (k + 1)
+  store-next out₀ out k byte room s h e =
+      rw zero-add at
+      (stored-next out₀ 0 bytes (bytesFor count) (omega arith) (omega (arith, length-bytes)) out k byte 0 s h (e ∙ sym (getD-pack _ k (rw length-literals h))))
+
+  pub store-last : (out₀ out : List ℕ) (k : ℕ) → Stored out₀ 0 bytes (bytesFor count) out k → bytesFor count ≤ k → out ≡ over bytes out₀
+  store-last out₀ out k s h = stored-last out₀ 0 bytes (bytesFor count) out k s h ∙ rw (← length-bytes) (over-paste out₀ bytes)
+
+  -- four fields make a byte
+  pub four-fields : (k : ℕ) {a b c d r : ℕ}
+      → a ≡ code (getD (literalValues values words at step count) (4 * k) unknown)
+      → b ≡ code (getD (literalValues values words at step count) (4 * k + 1) unknown)
+      → c ≡ code (getD (literalValues values words at step count) (4 * k + 2) unknown)
+      → d ≡ code (getD (literalValues values words at step count) (4 * k + 3) unknown)
+      → r ≡ byteOf (decode a) (decode b) (decode c) (decode d) → r ≡ byteAt (literalValues values words at step count) k
+  unfolding byteAt
+  four-fields k ea eb ec ed e = rw (is-decoded _ ea, is-decoded _ eb, is-decoded _ ec, is-decoded _ ed) at e

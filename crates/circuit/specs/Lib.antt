@@ -1,0 +1,5 @@
+pub mod Circuit
+pub mod Refusal
+pub mod Table
+pub mod Working
+pub mod Tick

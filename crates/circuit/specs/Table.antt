@@ -1,0 +1,104 @@
+-- Counts and the table of words (document 01, Circuit), the rules for the words, and the circuit that they make. Assumes nothing.
+use mathlib.Core.Bool.{Bool, _&&_}
+use mathlib.Core.List.{List, [], _∷_, _++_}
+use Prim.Native.Nat.{ℕ, zero, suc, _+_, _*_, _≤_, _<_}
+use lib.Dec.{leb, ltb}
+use lib.ListN.{length, getD, drop}
+use Rattle.three.specs.Lists.{tabulate}
+use Rattle.circuit.specs.declared.Counts.{Counts}
+use Rattle.circuit.specs.Circuit.{Circuit, Gate}
+use Rattle.circuit.specs.Refusal.{Test, _or_}
+
+-- M
+abbrev pub variables : Counts → ℕ
+variables c = c .inputs + c .latches + c .gates
+
+-- the largest literal, 2M + 1
+abbrev pub top : Counts → ℕ
+top c = 2 * variables c + 1
+
+-- refusal 3: the ceilings
+unfoldable pub ceilingTests : Counts → List Test
+ceilingTests c =
+    leb (c .inputs) 256 or 3 ∷ leb (c .latches) 512 or 3 ∷ leb (c .lamps) 64 or 3 ∷ leb (c .gates) 3327 or 3 ∷ []
+
+-- the table takes so many words
+abbrev pub tableLength : Counts → ℕ
+tableLength c = 2 * c .latches + c .lamps + 2 * c .gates
+
+-- The kinds of line that a circuit's text has; an input, a latch and a gate with the own literal due there
+pub data Kind : Type 0 where
+  input latch gate : ℕ → Kind
+  lamp : Kind
+
+-- n lines of a kind, the first with the literal own, and then the lines ks
+unfoldable pub several : (ℕ → Kind) → ℕ → ℕ → List Kind → List Kind
+several kind own zero ks = ks
+several kind own (suc n) ks = kind own ∷ several kind (own + 2) n ks
+
+-- one line for each input, latch, lamp and gate, in that order
+unfoldable pub kinds : Counts → List Kind
+kinds c =
+    several input 2 (c .inputs)
+    (several latch (2 + 2 * c .inputs) (c .latches)
+    (several (λ own. lamp) 0 (c .lamps) (several gate (2 + 2 * c .inputs + 2 * c .latches) (c .gates) [])))
+
+-- how many words of the table belong to a line
+unfoldable pub width : Kind → ℕ
+width (input own) = 0
+width (latch own) = 2
+width lamp = 1
+width (gate own) = 2
+
+-- rules 6, 7 and 8 for a line's words, the first of ws; `most` is the largest literal
+unfoldable pub rowTests : ℕ → Kind → List ℕ → List Test
+rowTests most (input own) ws = []
+rowTests most (latch own) ws = leb (getD ws 0 0) most or 6 ∷ leb (getD ws 1 0) 1 or 8 ∷ []
+rowTests most lamp ws = leb (getD ws 0 0) most or 6 ∷ []
+rowTests most (gate own) ws =
+    leb (getD ws 0 0) most or 6 ∷ leb (getD ws 1 0) most or 6 ∷ ltb (getD ws 0 0) own or 7 ∷ ltb (getD ws 1 0) own or 7 ∷ []
+
+-- the same for the words of several lines
+unfoldable pub tableTests : ℕ → List Kind → List ℕ → List Test
+tableTests most [] ws = []
+tableTests most (k ∷ ks) ws = rowTests most k ws ++ tableTests most ks (drop (width k) ws)
+
+-- the same rules where a line's words stand at word `at`: 6 and 8 for a latch, 6 for a lamp, and for a gate 7, from which 6 follows
+unfoldable pub latchKept : ℕ → List ℕ → ℕ → Bool
+latchKept most words at = leb (getD words at 0) most && leb (getD words (at + 1) 0) 1
+
+unfoldable pub lampKept : ℕ → List ℕ → ℕ → Bool
+lampKept most words at = leb (getD words at 0) most
+
+unfoldable pub gateKept : ℕ → List ℕ → ℕ → Bool
+gateKept own words at = ltb (getD words at 0) own && ltb (getD words (at + 1) 0) own
+
+-- n gates whose operands stand from word `at` on
+unfoldable pub gatesFrom : List ℕ → ℕ → ℕ → List Gate
+gatesFrom words at n = tabulate n (λ i. record { left = getD words (at + 2 * i) 0; right = getD words (at + 2 * i + 1) 0 })
+
+-- for each latch its next literal and its reset; then the lamp literals; then two operands a gate
+unfoldable pub circuitOf : Counts → List ℕ → Circuit
+circuitOf c words = record {
+  inputs = c .inputs;
+  latches = tabulate (c .latches) (λ i. record { next = getD words (2 * i) 0; reset = getD words (2 * i + 1) 0 });
+  lamps = tabulate (c .lamps) (λ i. getD words (2 * c .latches + i) 0);
+  gates = gatesFrom words (2 * c .latches + c .lamps) (c .gates);
+}
+
+-- counts within the ceilings
+pub record Bounded (c : Counts) : Type 0 where
+  pub inputs : c .inputs ≤ 256
+  pub latches : c .latches ≤ 512
+  pub lamps : c .lamps ≤ 64
+  pub gates : c .gates ≤ 3327
+
+-- A circuit that 3, 10 and 11 do not refuse, rule by rule
+pub record Legal (c : Counts) (words : List ℕ) : Type 0 where
+  pub bounded : Bounded c
+  pub long : tableLength c ≤ length words
+  pub next : (i : ℕ) → i < c .latches → getD words (2 * i) 0 ≤ top c
+  pub reset : (i : ℕ) → i < c .latches → getD words (2 * i + 1) 0 ≤ 1
+  pub lamp : (i : ℕ) → i < c .lamps → getD words (2 * c .latches + i) 0 ≤ top c
+  pub left : (i : ℕ) → i < c .gates → getD words (2 * c .latches + c .lamps + 2 * i) 0 < 2 * (1 + c .inputs + c .latches + i)
+  pub right : (i : ℕ) → i < c .gates → getD words (2 * c .latches + c .lamps + 2 * i + 1) 0 < 2 * (1 + c .inputs + c .latches + i)

@@ -1,0 +1,120 @@
+-- The run (document 01, Run): cubes from the resets on, until one falls inside a stored one. Assumes nothing.
+use mathlib.Core.Bool.{Bool, true, false, not, _||_}
+use mathlib.Core.List.{List, [], _∷_, map, zipWith}
+use Prim.Native.Nat.{ℕ, zero, suc, _+_, _-_, _%_}
+use lib.ListN.{replicate}
+use lib.Dec.{eqb}
+use Rattle.three.specs.Lists.{adjust}
+use Rattle.three.specs.Value.{Three, unknown, low, high, ternary}
+use Rattle.three.specs.Cube.{Cube, alike, subsumes, blank, merged}
+use Rattle.circuit.specs.Circuit.{Circuit, Latch, next, lamps}
+
+-- held latches set to X
+unfoldable pub hold : List Bool → Cube → Cube
+hold held b = adjust blank b held
+
+-- the latches whose value in a and b differs
+unfoldable pub differing : Cube → Cube → List Bool
+differing = zipWith (λ x y. not (alike x y))
+
+-- w is not 0 and divides k
+unfoldable pub due : ℕ → ℕ → Bool
+due zero k = false
+due (suc w) k = eqb (k % suc w) 0
+
+-- all switches are X
+unfoldable pub switchesUnknown : Circuit → Cube
+switchesUnknown c = replicate (c .inputs) unknown
+
+-- the next state of a cube
+unfoldable pub nextCube : Circuit → Cube → Cube
+nextCube c a = next ternary c (switchesUnknown c) a
+
+-- the lamps in a cube
+unfoldable pub lampsIn : Circuit → Cube → Cube
+lampsIn c a = lamps ternary c (switchesUnknown c) a
+
+-- a reset as a field
+unfoldable pub startField : ℕ → Three
+startField zero = low
+startField (suc n) = high
+
+-- cube 0 is the resets
+unfoldable pub start : Circuit → Cube
+start c = map (λ (l : Latch). startField (l .reset)) (c .latches)
+
+-- a stored cube, and which latches are held unknown once it is stored
+pub record Stage : Type 0 where
+  pub cube : Cube
+  pub held : List Bool
+
+-- b: the next state of the last cube, with held latches set to X
+unfoldable pub reached : Circuit → Stage → Cube
+reached c s = hold (s .held) (nextCube c (s .cube))
+
+-- which latches are held once b is stored: where b is due, every latch whose value in a and b differs too
+unfoldable pub widened : Bool → Stage → Cube → List Bool
+widened false s b = s .held
+widened true s b = adjust _||_ (s .held) (differing (s .cube) b)
+
+-- b stored, due (true) or not
+unfoldable pub store : Bool → Stage → Cube → Stage
+store d s b =
+    let held′ : List Bool = widened d s b in
+    record { cube = hold held′ b; held = held′ }
+
+module _ (c : Circuit) (w : ℕ) where
+  -- cube number k and what is held with it, however long the run goes on
+  unfoldable pub stage : ℕ → Stage
+  stage zero = record { cube = start c; held = map (λ (l : Latch). false) (c .latches) }
+  stage (suc k) = let s : Stage = stage k in store (due w (suc k)) s (reached c s)
+
+  -- cube number k
+  unfoldable pub cubeAt : ℕ → Cube
+  cubeAt k = stage k .cube
+
+-- what a search gives
+pub data Found : Type 0 where
+  at : ℕ → Found
+  nowhere : Found
+
+-- the first of the cubes 0 to n − 1 that subsumes b
+unfoldable pub search : (ℕ → Cube) → ℕ → Cube → Found
+search cubes zero b = nowhere
+search cubes (suc n) b =
+    elim (search cubes n b) [
+      | at j ↦ at j
+      | nowhere ↦ elim (subsumes (cubes n) b) [ true ↦ at n | false ↦ nowhere ]
+    ]
+
+-- closed with n cubes back to j, or no room for the next cube
+pub data Outcome : Type 0 where
+  closed : ℕ → ℕ → Outcome
+  full : Outcome
+
+module _ (c : Circuit) (w : ℕ) where
+  -- where b after cube number k falls, among the cubes up to k
+  unfoldable pub back : ℕ → Found
+  back k = search (cubeAt c w) (suc k) (reached c (stage c w k))
+
+  -- the run with room for so many cubes
+  unfoldable pub run : ℕ → Outcome
+  run zero = full
+  run (suc k) =
+      elim (run k) [
+        | closed n j ↦ closed n j
+        | full ↦ elim (back k) [ at j ↦ closed (suc k) j | nowhere ↦ full ]
+      ]
+
+-- the merge of cubes k, k + 1, .., k + more: what is known alike in all of them
+unfoldable pub merge : (ℕ → Cube) → ℕ → ℕ → Cube
+merge cubes k zero = cubes k
+merge cubes k (suc more) = merged (merge cubes k more) (cubes (k + suc more))
+
+-- per lamp never (low) if 0 in all n cubes, always (high) if 1 in all, else open (unknown)
+unfoldable pub verdict : Circuit → (ℕ → Cube) → ℕ → Cube
+verdict c cubes n = merge (λ k. lampsIn c (cubes k)) 0 (n - 1)
+
+-- per latch the known value shared by cubes j to n − 1
+unfoldable pub settled : (ℕ → Cube) → ℕ → ℕ → Cube
+settled cubes n j = merge cubes j (n - 1 - j)

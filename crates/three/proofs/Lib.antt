@@ -1,0 +1,6 @@
+pub mod Lists
+pub mod Table
+pub mod Pack
+pub mod Merge
+pub mod Bytewise
+pub mod Counting

@@ -1,0 +1,37 @@
+-- `three::byte_of` meets its contract: the two bits of each value are that value's code. Assumes nothing.
+use native.Mathlib.Omega.{arith}
+use borrow.Author.Needs.{needs}
+use Rattle.three.specs.Record.{byteOf}
+use Rattle.three.proofs.Pack.{code-decode}
+use Rattle.three.proofs.byte_of.Statement.{statement}
+use Rattle.three.proofs.byte_of.Tie as tie
+
+mul-result : tie.Need-mul-result
+mul-result c = search needs
+
+mul-result-2 : tie.Need-mul-result-2
+mul-result-2 c = search needs
+
+add-result : tie.Need-add-result
+add-result c = search needs
+
+mul-result-3 : tie.Need-mul-result-3
+mul-result-3 c = search needs
+
+add-result-2 : tie.Need-add-result-2
+add-result-2 c = search needs
+
+add-result-3 : tie.Need-add-result-3
+add-result-3 c = search needs
+
+returns : tie.Need-returns
+unfolding byteOf
+returns c =
+    let code-of-a = code-decode _ (c .pre .0) in
+    let code-of-b = code-decode _ (c .pre .1) in
+    let code-of-c = code-decode _ (c .pre .2) in
+    let code-of-d = code-decode _ (c .pre .3) in
+    omega arith
+
+pub byte-of-spec : {M : Type 1} → statement M
+byte-of-spec = tie.close (tie.spec mul-result mul-result-2 add-result mul-result-3 add-result-2 add-result-3 returns)

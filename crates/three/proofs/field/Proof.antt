@@ -1,0 +1,38 @@
+-- `three::field` meets its contract: the shift takes the pair's digit in base 4. Assumes nothing.
+use mathlib.Core.Path.{_≡_, refl, sym, ap, _∙_}
+use Prim.Native.Nat.{ℕ, _*_, _-_, _/_, _%_, _^_, _<_}
+use native.Mathlib.Omega.{arith}
+use borrow.Author.Needs.{needs}
+use lib.ListN.{getD}
+use Rattle.three.specs.Lists.{tabulate}
+use Rattle.three.specs.Record.{pairs, pairAt}
+use Rattle.three.proofs.Table.{same-answers}
+use Rattle.three.proofs.Pack.{pair-digit}
+use Rattle.three.proofs.field.Statement.{statement}
+use Rattle.three.proofs.field.Tie as tie
+
+shared-slice-read-result : tie.Need-shared-slice-read-result
+shared-slice-read-result c = search needs
+
+mul-result : tie.Need-mul-result
+mul-result c = search needs
+
+sub-result : tie.Need-sub-result
+sub-result c = search needs
+
+cast-result : tie.Need-cast-result
+cast-result c = search needs
+
+shr-result : tie.Need-shr-result
+shr-result c = search needs
+
+shifted : (byte k : ℕ) → k < 4 → byte / 2 ^ (6 - 2 * k) % 4 ≡ getD (pairs byte) k 0
+unfolding tabulate
+shifted byte k h = ap (λ unit. byte / unit % 4) (same-answers 0 (λ k. 2 ^ (6 - 2 * k)) (λ k. 4 ^ (3 - k)) 4 k refl h) ∙ sym (pair-digit byte k h)
+
+returns : tie.Need-returns
+unfolding pairAt
+returns c = shifted _ _ (omega arith)
+
+pub field-spec : {M : Type 1} → statement M
+field-spec = tie.close (tie.spec shared-slice-read-result mul-result sub-result cast-result shr-result returns)

@@ -1,0 +1,53 @@
+-- `three::known_fields` meets its contract. The invariant: the count is that of the fields in the first k bytes. Assumes nothing.
+use mathlib.Core.Path.{_≡_, ap, _∙_}
+use Prim.Native.Nat.{_+_, _*_, _-_, _≤_}
+use native.Mathlib.Omega.{arith}
+use Rattle.three.specs.Cube.{knownFields}
+use Rattle.three.specs.Record.{bytesFor, unpack}
+use Rattle.three.proofs.Counting.{counted-first, counted-small, counted-next, counted-last}
+use Rattle.three.proofs.known_fields.Statement.{statement}
+use Rattle.three.proofs.known_fields.Tie as tie
+
+abbrev Inv-loop : tie.InvT-loop
+Inv-loop bytes fields count₀ k₀ k-end count k = (k ≤ k-end) × (count ≡ knownFields (unpack (4 * k) bytes))
+
+abbrev μ-loop : tie.MeasureT-loop
+μ-loop bytes fields count₀ k₀ k-end count k = k-end - k
+
+record-length-requires : tie.Need-record-length-requires Inv-loop μ-loop
+record-length-requires c κs = tt
+
+loop-holds : tie.Need-loop-holds Inv-loop μ-loop
+loop-holds c = (omega arith, counted-first _)
+
+shared-slice-read-known : tie.Need-shared-slice-read-known Inv-loop μ-loop
+shared-slice-read-known c = omega arith
+
+known-requires : tie.Need-known-requires Inv-loop μ-loop
+known-requires c κs = tt
+
+cast-count : tie.Need-cast-count Inv-loop μ-loop
+cast-count c = omega arith
+
+add-count : tie.Need-add-count Inv-loop μ-loop
+add-count c = let turn = c .before .before .before in omega (arith, counted-small _ _ _ (turn .loop .inv .1))
+
+add-k : tie.Need-add-k Inv-loop μ-loop
+add-k c = omega arith
+
+loop-less : tie.Need-loop-less Inv-loop μ-loop
+loop-less c = omega arith
+
+loop-again : tie.Need-loop-again Inv-loop μ-loop
+loop-again c =
+    let turn = c .before .before .before in
+    (omega arith, ap (λ n. turn .loop .count + n) (c .known .ensures) ∙ counted-next _ _ _ _ (turn .before .before .before .pre .1 .good) (omega arith) (turn .loop .inv .1))
+
+returns : tie.Need-returns Inv-loop μ-loop
+returns c =
+    let start = c .before .before .before in
+    counted-last _ _ _ _ (start .before .pre .1 .good) (omega (arith, start .shared-slice-known .given (bytesFor (start .before .args .fields) - 1))) (omega arith) (c .before .loop .inv .1)
+
+pub known-fields-spec : {M : Type 1} → statement M
+known-fields-spec =
+    tie.close (tie.spec Inv-loop μ-loop record-length-requires loop-holds shared-slice-read-known known-requires cast-count add-count add-k loop-less loop-again returns)

@@ -1,0 +1,97 @@
+-- `three::sound` meets its contract. The invariant: no byte before k has a pair 11. Assumes nothing.
+use mathlib.Core.Path.{_≡_, refl, sym, ap, _∙_}
+use mathlib.Core.Bool.{false, not, _&&_}
+use mathlib.Core.List.{List, [], _∷_}
+use Prim.Native.Nat.{ℕ, _*_, _-_, _%_, _^_, _<_, _≤_}
+use native.Mathlib.Nat.{one-le-pow}
+use native.Mathlib.Omega.{arith}
+use borrow.Author.Tests.{eq-eqb, ne-eqb}
+use lib.Dec.{eqb}
+use lib.ListN.{getD}
+use Rattle.three.specs.Lists.{tabulate}
+use Rattle.three.specs.Record.{bytesFor, judged, leftover, sound}
+use Rattle.three.proofs.Lists.{Tried, tried-first, tried-next, tried-fails, tried-all}
+use Rattle.three.proofs.Table.{entry}
+use Rattle.three.proofs.Pack.{goodByte}
+use Rattle.three.proofs.sound.Statement.{statement}
+use Rattle.three.proofs.sound.Tie as tie
+
+abbrev units : List ℕ
+units = 1 ∷ 4 ∷ 16 ∷ 64 ∷ 256 ∷ []
+
+unit : (n : ℕ) → n < 5 → getD units n 0 ≡ 4 ^ n
+unfolding tabulate
+unit n h = entry 0 (λ k. 4 ^ k) 5 n h
+
+unit-pos : (n : ℕ) → n < 5 → 0 < getD units n 0
+unit-pos n h = rw (unit n h) (one-le-pow n 4 (omega arith))
+
+refused : (bytes : List ℕ) (f k : ℕ) → k < bytesFor f → judged (getD bytes k 0) ≡ 255 → false ≡ sound f bytes
+unfolding sound
+refused bytes f k h e = ap (λ t. t && eqb (leftover f bytes) 0) (tried-fails (bytesFor f) (goodByte bytes) h refl (ap not (eq-eqb _ _ e)))
+
+accepted : (bytes : List ℕ) (f n k : ℕ) → n ≡ bytesFor f → Tried n (goodByte bytes) k → n ≤ k → eqb (getD bytes (n - 1) 0 % getD units (4 * n - f) 0) 0 ≡ sound f bytes
+unfolding sound leftover
+accepted bytes f n k e t h = rw (← e, unit (4 * n - f) (omega arith), ← tried-all n (goodByte bytes) t h)
+
+abbrev Inv-loop : tie.InvT-loop
+Inv-loop bytes fields len k₀ k = Tried len (goodByte bytes) k
+
+abbrev μ-loop : tie.MeasureT-loop
+μ-loop bytes fields len k₀ k = len - k
+
+record-length-requires : tie.Need-record-length-requires Inv-loop μ-loop
+record-length-requires c κs = tt
+
+loop-holds : tie.Need-loop-holds Inv-loop μ-loop
+loop-holds c = tried-first _ _
+
+shared-slice-read-known : tie.Need-shared-slice-read-known Inv-loop μ-loop
+shared-slice-read-known c = omega arith
+
+known-requires : tie.Need-known-requires Inv-loop μ-loop
+known-requires c κs = tt
+
+returns : tie.Need-returns Inv-loop μ-loop
+returns c = refused _ _ _ (omega arith) (sym (c .before .known .ensures) ∙ c .if1 .taken)
+
+add-k : tie.Need-add-k Inv-loop μ-loop
+add-k c = omega arith
+
+loop-less : tie.Need-loop-less Inv-loop μ-loop
+loop-less c = omega arith
+
+loop-again : tie.Need-loop-again Inv-loop μ-loop
+loop-again c = tried-next _ _ (c .before .before .before .before .loop .inv) (omega arith) refl (ap not (ne-eqb _ _ (λ e. c .if1 .left (c .before .known .ensures ∙ e))))
+
+sub-last : tie.Need-sub-last Inv-loop μ-loop
+sub-last c = omega arith
+
+shared-slice-read-last : tie.Need-shared-slice-read-last Inv-loop μ-loop
+shared-slice-read-last c = omega arith
+
+cast-last : tie.Need-cast-last Inv-loop μ-loop
+cast-last c = omega (arith, c .shared-slice-known3 .given (c .before .before .before .record-length .result - 1))
+
+mul-result : tie.Need-mul-result Inv-loop μ-loop
+mul-result c = omega arith
+
+sub-result : tie.Need-sub-result Inv-loop μ-loop
+sub-result c = omega arith
+
+mul-result-2 : tie.Need-mul-result-2 Inv-loop μ-loop
+mul-result-2 c = omega arith
+
+array-read-result : tie.Need-array-read-result Inv-loop μ-loop
+array-read-result c = omega arith
+
+rem-result : tie.Need-rem-result Inv-loop μ-loop
+rem-result c = unit-pos (4 * c .before .before .before .record-length .result - c .before .before .before .before .before .args .fields) (omega arith)
+
+returns-2 : tie.Need-returns-2 Inv-loop μ-loop
+returns-2 c = accepted _ _ _ _ (c .before .before .before .record-length .ensures) (c .before .before .loop .inv) (omega arith)
+
+pub sound-spec : {M : Type 1} → statement M
+sound-spec =
+    tie.close
+    (tie.spec Inv-loop μ-loop record-length-requires loop-holds shared-slice-read-known known-requires returns add-k loop-less loop-again sub-last shared-slice-read-last cast-last mul-result sub-result mul-result-2 array-read-result rem-result returns-2)

@@ -1,0 +1,4 @@
+pub mod Lists
+pub mod Value
+pub mod Cube
+pub mod Record

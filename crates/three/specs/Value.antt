@@ -1,0 +1,52 @@
+-- The values 0, 1 and X (document 01, Tick), and the two logics that a circuit is read in. Assumes nothing.
+use mathlib.Core.Bool.{Bool, true, false, not, _&&_}
+use Prim.Native.Nat.{ℕ, zero, suc}
+
+-- X, 0 and 1
+pub data Three : Type 0 where
+  unknown low high : Three
+
+-- the two bits of a value in a record (document 01, Records): 00 unknown, 01 known 0, 10 known 1
+unfoldable pub code : Three → ℕ
+code unknown = 0
+code low = 1
+code high = 2
+
+-- the value that two bits stand for; 11 stands for none, and is refused before it is read
+unfoldable pub decode : ℕ → Three
+decode zero = unknown
+decode (suc zero) = low
+decode (suc (suc n)) = high
+
+-- a Boolean as a value
+unfoldable pub known : Bool → Three
+known false = low
+known true = high
+
+-- the gate rule: 0 with anything is 0, 1 with 1 is 1, the rest X
+unfoldable pub both : Three → Three → Three
+both low b = low
+both high low = low
+both high high = high
+both high unknown = unknown
+both unknown low = low
+both unknown high = unknown
+both unknown unknown = unknown
+
+-- inverting swaps 0 and 1 and keeps X
+unfoldable pub inverse : Three → Three
+inverse unknown = unknown
+inverse low = high
+inverse high = low
+
+-- What a circuit needs of the values that it is read in: the constant false, the gate rule and inversion
+pub record Logic (A : Type 0) : Type 0 where
+  pub false : A
+  pub and : A → A → A
+  pub invert : A → A
+
+unfoldable pub boolean : Logic Bool
+boolean = record { false = false; and = _&&_; invert = not }
+
+unfoldable pub ternary : Logic Three
+ternary = record { false = low; and = both; invert = inverse }
