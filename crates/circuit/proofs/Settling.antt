@@ -5,7 +5,7 @@ use Prim.Native.Nat.{ℕ, zero, suc, _+_, _*_, _<_, _≤_}
 use native.Mathlib.Nat.{zero-add, add-zero, one-mul}
 use native.Mathlib.Omega.{arith}
 use lib.ListN.{length, getD, set, take, replicate, length-set, length-append, length-replicate}
-use lib.Seq.{paste, take-paste, length-paste, take-all, take-suc-set, take-append-seam}
+use lib.Seq.{paste, take-paste, take-all, take-suc-set, take-append-seam}
 use Rattle.three.specs.Value.{Three, low, decode, ternary}
 use Rattle.three.specs.Cube.{Cube}
 use Rattle.three.proofs.Lists.{length-tabulate, map-tabulate, tabulate-ext}
@@ -19,33 +19,40 @@ module _ (c : Counts) (words : List ℕ) (legal : Legal c words) where
   pub legal-gates : Gateable words (2 * c .latches + c .lamps) (1 + c .inputs + c .latches) (c .gates)
   legal-gates = record { long = legal .long; room = omega (arith, legal .bounded); left = legal .left; right = legal .right }
 
-  module _ (switches state : Cube) (sized : length switches ≡ c .inputs) (sized′ : length state ≡ c .latches) where
-    -- the constant, the switches and the state, loaded one after the other
-    loaded : (vs : List Three) → length vs ≡ 4096
-        → take (1 + c .inputs + c .latches) (paste (paste (set vs 0 low) 1 switches (c .inputs)) (1 + c .inputs) state (c .latches)) ≡ low ∷ (switches ++ state)
-    loaded vs long =
-        let b = legal .bounded in
-        let vs₁ : List Three = set vs 0 low in
-        let long₁ : length vs₁ ≡ 4096 = length-set vs 0 low ∙ long in
-        let vs₂ : List Three = paste vs₁ 1 switches (c .inputs) in
-        let long₂ : length vs₂ ≡ 4096 = length-paste vs₁ 1 switches (c .inputs) (omega (arith, b .inputs)) (omega arith) ∙ long₁ in
-        take-paste vs₂ (1 + c .inputs) state (c .latches) (omega (arith, b .inputs)) (omega arith)
-        ∙ ap₂ (λ (x y : List Three). x ++ y)
-        (take-paste vs₁ 1 switches (c .inputs) (omega arith) (omega arith)
-        ∙ ap₂ (λ (x y : List Three). x ++ y) (take-suc-set vs 0 low (omega arith)) (take-all (c .inputs) switches (omega arith)))
-        (take-all (c .latches) state (omega arith))
+  -- a state behind what stands in the table
+  module _ (state : Cube) (sized : length state ≡ c .latches) where
+    state-loaded : (vs : List Three) → length vs ≡ 4096
+        → take (1 + c .inputs + c .latches) (paste vs (1 + c .inputs) state (c .latches)) ≡ take (1 + c .inputs) vs ++ state
+    state-loaded vs long =
+        take-paste vs (1 + c .inputs) state (c .latches) (omega (arith, legal .bounded .inputs)) (omega arith)
+        ∙ ap (λ (x : List Three). take (1 + c .inputs) vs ++ x) (take-all (c .latches) state (omega arith))
 
-    pub settle-begins : (t₀ t₁ t₂ t₃ t₄ : List ℕ) → Working t₀
+    pub state-begins : (t₀ t₁ t₂ : List ℕ) → Working t₀
+        → Holding t₁ (paste (valuesOf t₀) (1 + c .inputs) state (c .latches))
+        → Holding t₂ (passed words (2 * c .latches + c .lamps) (1 + c .inputs + c .latches) (c .gates) (valuesOf t₁))
+        → Begins t₂ (pass ternary (take (1 + c .inputs) (valuesOf t₀) ++ state) (circuitOf c words .gates))
+    unfolding circuitOf passed
+    state-begins t₀ t₁ t₂ w h₁ h₂ = record {
+      working = h₂ .working;
+      same = rw (h₂ .same, h₁ .same, state-loaded (valuesOf t₀) (length-values t₀ ∙ w .long)) (take-append-seam _ _);
+    }
+
+  -- the constant and the switches in front of it
+  module _ (switches state : Cube) (sized : length switches ≡ c .inputs) where
+    switches-loaded : (vs : List Three) → length vs ≡ 4096 → take (1 + c .inputs) (paste (set vs 0 low) 1 switches (c .inputs)) ≡ low ∷ switches
+    switches-loaded vs long =
+        take-paste (set vs 0 low) 1 switches (c .inputs) (omega (arith, length-set vs 0 low)) (omega arith)
+        ∙ ap₂ (λ (x y : List Three). x ++ y) (take-suc-set vs 0 low (omega arith)) (take-all (c .inputs) switches (omega arith))
+
+    pub settle-begins : (t₀ t₁ t₂ t₃ : List ℕ) → Working t₀
         → Holding t₁ (set (valuesOf t₀) 0 (decode 1))
         → Holding t₂ (paste (valuesOf t₁) 1 switches (c .inputs))
-        → Holding t₃ (paste (valuesOf t₂) (1 + c .inputs) state (c .latches))
-        → Holding t₄ (passed words (2 * c .latches + c .lamps) (1 + c .inputs + c .latches) (c .gates) (valuesOf t₃))
-        → Begins t₄ (settle ternary (circuitOf c words) switches state)
-    unfolding settle circuitOf ternary passed decode
-    settle-begins t₀ t₁ t₂ t₃ t₄ w h₁ h₂ h₃ h₄ = record {
-      working = h₄ .working;
-      same = rw (h₄ .same, h₃ .same, h₂ .same, h₁ .same, loaded (valuesOf t₀) (length-values t₀ ∙ w .long)) (take-append-seam _ _);
-    }
+        → Begins t₃ (pass ternary (take (1 + c .inputs) (valuesOf t₂) ++ state) (circuitOf c words .gates))
+        → Begins t₃ (settle ternary (circuitOf c words) switches state)
+    unfolding settle ternary decode
+    settle-begins t₀ t₁ t₂ t₃ w h₁ h₂ b =
+        let front : take (1 + c .inputs) (valuesOf t₂) ≡ low ∷ switches = rw (h₂ .same, h₁ .same) (switches-loaded (valuesOf t₀) (length-values t₀ ∙ w .long)) in
+        rw front at b
 
 -- ---- a literal of the circuit is read from the values that the table begins with
 

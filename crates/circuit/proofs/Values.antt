@@ -2,25 +2,16 @@
 use mathlib.Core.Path.{_≡_, refl, sym, ap, ap₂, _∙_}
 use mathlib.Core.List.{List, [], _∷_, map}
 use Prim.Native.Nat.{ℕ, zero, suc, _+_, _*_, _/_, _%_, _<_, _≤_}
-use native.Mathlib.Nat.{le-of-suc-le-suc, not-suc-le-zero, zero-add}
+use native.Mathlib.Nat.{le-of-suc-le-suc, not-suc-le-zero}
 use native.Mathlib.Omega.{arith}
 use lib.ListN.{length, getD, set, take, length-set, length-map, List·getD-map}
 use lib.Seq.{getD-take}
-use Rattle.three.specs.Lists.{over}
-use Rattle.three.specs.Record.{bytesFor, byteOf, byteAt, pack, pairAt, unpack, IsRecord}
+use Rattle.three.specs.Record.{pairAt, unpack, IsRecord}
 use Rattle.three.specs.Value.{Three, unknown, low, code, decode, inverse, ternary}
-use Rattle.three.proofs.Lists.{Stored, stored-next, stored-last, over-paste, length-tabulate, getD-tabulate, getD-beyond}
-use Rattle.three.proofs.Pack.{code-decode, code-small, decode-code, length-pack, getD-pack, length-unpack, sound-pair}
+use Rattle.three.proofs.Lists.{Stored, stored-next, length-tabulate, getD-tabulate, getD-beyond}
+use Rattle.three.proofs.Pack.{code-decode, length-unpack, sound-pair}
 use Rattle.circuit.specs.Circuit.{signed, value}
 use Rattle.circuit.specs.Working.{valuesOf, Working, Holding, literalValues}
-
--- ---- codes
-
-pub is-small : {r : ℕ} (v : Three) → r ≡ code v → r < 3
-is-small v e = rw e (code-small v)
-
-pub is-decoded : {r : ℕ} (v : Three) → r ≡ code v → decode r ≡ v
-is-decoded v e = rw e (decode-code v)
 
 -- ---- a variable read, and written
 
@@ -102,28 +93,3 @@ module _ (values : List Three) (words : List ℕ) (at step count : ℕ) where
   pub literal-beyond : (i : ℕ) → count ≤ i → 0 ≡ code (getD (literalValues values words at step count) i unknown)
   unfolding literalValues code
   literal-beyond i h = ap code (sym (getD-beyond count _ i unknown h))
-
-  abbrev bytes : List ℕ
-  bytes = pack (literalValues values words at step count)
-
-  length-bytes : length bytes ≡ bytesFor count
-  length-bytes = rw (length-pack, length-literals)
-
-  pub store-next : (out₀ out : List ℕ) (k byte : ℕ) → bytesFor count ≤ length out₀ → Stored out₀ 0 bytes (bytesFor count) out k → k < bytesFor count
-      → byte ≡ byteAt (literalValues values words at step count) k → Stored out₀ 0 bytes (bytesFor count) (set out k byte) (k + 1)
-  store-next out₀ out k byte room s h e =
-      rw zero-add at
-      (stored-next out₀ 0 bytes (bytesFor count) (omega arith) (omega (arith, length-bytes)) out k byte 0 s h (e ∙ sym (getD-pack _ k (rw length-literals h))))
-
-  pub store-last : (out₀ out : List ℕ) (k : ℕ) → Stored out₀ 0 bytes (bytesFor count) out k → bytesFor count ≤ k → out ≡ over bytes out₀
-  store-last out₀ out k s h = stored-last out₀ 0 bytes (bytesFor count) out k s h ∙ rw (← length-bytes) (over-paste out₀ bytes)
-
-  -- four fields make a byte
-  pub four-fields : (k : ℕ) {a b c d r : ℕ}
-      → a ≡ code (getD (literalValues values words at step count) (4 * k) unknown)
-      → b ≡ code (getD (literalValues values words at step count) (4 * k + 1) unknown)
-      → c ≡ code (getD (literalValues values words at step count) (4 * k + 2) unknown)
-      → d ≡ code (getD (literalValues values words at step count) (4 * k + 3) unknown)
-      → r ≡ byteOf (decode a) (decode b) (decode c) (decode d) → r ≡ byteAt (literalValues values words at step count) k
-  unfolding byteAt
-  four-fields k ea eb ec ed e = rw (is-decoded _ ea, is-decoded _ eb, is-decoded _ ec, is-decoded _ ed) at e

@@ -1,12 +1,13 @@
 // The table of words: its counts and rules, one pass over the gates, the tick (document 01, Circuit and Tick).
 ghost use mathlib.Core.Path.{_≡_};
+ghost use mathlib.Core.List.{_++_};
 ghost use Prim.Native.Nat.{ℕ, _+_, _*_, _<_, _≤_};
-ghost use lib.ListN.{length, getD, set};
+ghost use lib.ListN.{length, getD, set, take};
 ghost use lib.Seq.{paste};
 ghost use Rattle.three.specs.Lists.{every, over};
 ghost use Rattle.three.specs.Value.{unknown, low, code, decode, both, ternary};
 ghost use Rattle.three.specs.Record.{bytesFor, byteAt, pack, unpack, IsRecord};
-ghost use Rattle.circuit.specs.Circuit.{value, settle as settled};
+ghost use Rattle.circuit.specs.Circuit.{value, pass, settle as settled};
 ghost use Rattle.circuit.specs.Refusal.{allHold, refusal};
 ghost use Rattle.circuit.specs.Table.{top, tableLength, kinds, tableTests, latchKept, lampKept, gateKept, circuitOf, Bounded, Legal};
 ghost use Rattle.circuit.specs.Working.{valuesOf, Working, Holding, Begins, Gateable, Readable, literalValues, passed};
@@ -147,7 +148,7 @@ fn variable(values: &[u8; 4096], v: usize) -> u8
     values[v]
 }
 
-fn put_variable(values: &mut [u8; 4096], v: usize, x: u8)
+pub fn put_variable(values: &mut [u8; 4096], v: usize, x: u8)
     requires { ⌜ (v < 4096) × (x < 3) × Working (now values) ⌝ }
     ensures { λ _. ⌜ Holding (now (values .exit)) (set (valuesOf (now (values .entry))) v (decode x)) ⌝ }
 {
@@ -196,22 +197,31 @@ pub fn load(bytes: &[u8], first: usize, count: usize, values: &mut [u8; 4096])
     }
 }
 
+// One pass over a state, for the constant and the switches that stand in the table: the state, and then each gate in order.
+pub fn settle_state(counts: Counts, table: &[u16], state: &[u8], values: &mut [u8; 4096])
+    requires { ⌜ Legal counts (now table) × IsRecord (counts .latches) (now state) × Working (now values) ⌝ }
+    ensures { λ _. ⌜ Begins (now (values .exit)) (pass ternary (take (1 + counts .inputs) (valuesOf (now (values .entry))) ++ unpack (counts .latches) (now (state .entry))) (circuitOf counts (now (table .entry)) .gates)) ⌝ }
+{
+    let first = 1 + counts.inputs;
+    load(state, first, counts.latches, values);
+    let lamps = 2 * counts.latches;
+    gates(
+        table,
+        lamps + counts.lamps,
+        first + counts.latches,
+        counts.gates,
+        values,
+    );
+}
+
 // One pass: the constant, the switches, the state, and then each gate in order.
 fn settle(counts: Counts, table: &[u16], state: &[u8], switches: &[u8], values: &mut [u8; 4096])
     requires { ⌜ Legal counts (now table) × IsRecord (counts .latches) (now state) × IsRecord (counts .inputs) (now switches) × Working (now values) ⌝ }
     ensures { λ _. ⌜ Begins (now (values .exit)) (settled ternary (circuitOf counts (now (table .entry))) (unpack (counts .inputs) (now (switches .entry))) (unpack (counts .latches) (now (state .entry)))) ⌝ }
 {
-    let first = 1 + counts.inputs + counts.latches;
     put_variable(values, 0, 1);
     load(switches, 1, counts.inputs, values);
-    load(state, 1 + counts.inputs, counts.latches, values);
-    gates(
-        table,
-        2 * counts.latches + counts.lamps,
-        first,
-        counts.gates,
-        values,
-    );
+    settle_state(counts, table, state, values);
 }
 
 // Literal number i of `count`, one every `step` words from word `at` on; a field beyond them is X.

@@ -4,3 +4,7 @@ pub mod Places
 pub mod Cover
 pub mod Promise
 pub mod Closes
+pub mod Searching
+pub mod Keeping
+pub mod Starting
+pub mod Reaching

@@ -1,3 +1,4 @@
 pub mod Run
+pub mod Bytes
 pub mod Execution
 pub mod Bench

@@ -1,1 +1,171 @@
-// The run: cubes, search, widening (document 01, Run). Its definitions stand in specs/.
+// The run: cubes, search, widening (document 01, Run).
+use circuit::Counts;
+ghost use mathlib.Core.Path.{_≡_};
+ghost use mathlib.Core.Bool.{true};
+ghost use Prim.Native.Nat.{ℕ, _+_, _*_, _-_, _<_, _≤_};
+ghost use lib.ListN.{length, getD, drop};
+ghost use lib.Seq.{paste};
+ghost use Rattle.three.specs.Lists.{over};
+ghost use Rattle.three.specs.Value.{unknown, code};
+ghost use Rattle.three.specs.Record.{bytesFor, byteAt, pack, unpack, IsRecord};
+ghost use Rattle.circuit.specs.Table.{circuitOf, Legal};
+ghost use Rattle.circuit.specs.Working.{Working};
+ghost use Rattle.run.specs.Run.{due as isDue, nextCube, lampsIn, start};
+ghost use Rattle.run.specs.Bytes.{cubeIn, startFields, keptByte, differingByte, heldAfter, widenedBytes, keptBytes, coversFrom, first, Advanced, Ready};
+
+// The most bytes of a state record.
+const MOST_BYTES: usize = 128;
+
+// "If w is not 0 and divides k"
+fn due(w: usize, k: usize) -> bool
+    ensures { λ r. ⌜ r ≡ isDue w k ⌝ }
+{
+    if w == 0 {
+        return false;
+    }
+    k % w == 0
+}
+
+// The pairs of a and b that differ, as pairs 11.
+fn differing(a: u8, b: u8) -> u8
+    ensures { λ r. ⌜ r ≡ differingByte a b ⌝ }
+{
+    let z = a ^ b;
+    3 * ((z | (z / 2)) & 85)
+}
+
+// Holds every latch too whose value in the cube at byte `at` and in b differs.
+fn widen(held: [u8; 128], cubes: &[u8], at: usize, b: &[u8], len: usize) -> [u8; 128]
+    requires { ⌜ (len ≤ 128) × (at + len ≤ length (now cubes)) × (len ≤ length (now b)) ⌝ }
+    ensures { λ r. ⌜ r ≡ paste held 0 (widenedBytes len held (drop at (now (cubes .entry))) (now (b .entry))) len ⌝ }
+{
+    let mut wider = held;
+    for i in 0..len {
+        wider[i] = wider[i] | differing(cubes[at + i], b[i]);
+    }
+    wider
+}
+
+// Which latches are held once b is stored, due or not.
+fn held_after(d: bool, held: [u8; 128], cubes: &[u8], at: usize, b: &[u8], len: usize) -> [u8; 128]
+    requires { ⌜ (len ≤ 128) × (at + len ≤ length (now cubes)) × (len ≤ length (now b)) ⌝ }
+    ensures { λ r. ⌜ r ≡ heldAfter d len held (drop at (now (cubes .entry))) (now (b .entry)) ⌝ }
+{
+    if !d {
+        return held;
+    }
+    widen(held, cubes, at, b, len)
+}
+
+// A record's byte with its held fields set to X.
+fn kept(byte: u8, held: u8) -> u8
+    ensures { λ r. ⌜ r ≡ keptByte byte held ⌝ }
+{
+    byte & (255 - held)
+}
+
+// The record b with held latches set to X, into `out` from byte `at` on.
+fn store_kept(b: &[u8], held: [u8; 128], len: usize, out: &mut [u8], at: usize)
+    requires { ⌜ (len ≤ 128) × (len ≤ length (now b)) × (at + len ≤ length (now out)) ⌝ }
+    ensures { λ _. ⌜ now (out .exit) ≡ paste (now (out .entry)) at (keptBytes len held (now (b .entry))) len ⌝ }
+{
+    for i in 0..len {
+        out[at + i] = kept(b[i], held[i]);
+    }
+}
+
+// "The search is for the first stored cube that subsumes b": its number, or n where none of the n does.
+fn search(cubes: &[u8], len: usize, n: usize, b: &[u8]) -> usize
+    requires { ⌜ (n * len ≤ length (now cubes)) × (len ≤ length (now b)) ⌝ }
+    ensures { λ r. ⌜ r ≡ first n (λ k. coversFrom len (now (cubes .entry)) (now (b .entry)) (k * len)) ⌝ }
+{
+    let mut k = 0;
+    let mut at = 0;
+    let j = 'stored: loop {
+        if k == n {
+            break n;
+        }
+        let mut i = 0;
+        while i < len {
+            let c = cubes[at + i];
+            if c & b[i] != c {
+                k += 1;
+                at += len;
+                continue 'stored;
+            }
+            i += 1;
+        }
+        break k;
+    };
+    j
+}
+
+// Field number i of cube 0; a field beyond the latches is X.
+fn start_field(table: &[u16], count: usize, i: usize) -> u8
+    requires { ⌜ (2 * count ≤ length (now table)) × (count ≤ 512) ⌝ }
+    ensures { λ r. ⌜ r ≡ code (getD (startFields (now (table .entry)) count) i unknown) ⌝ }
+{
+    if i >= count {
+        return 0;
+    }
+    if table[2 * i + 1] == 0 {
+        return 1;
+    }
+    2
+}
+
+fn start_byte(table: &[u16], count: usize, k: usize) -> u8
+    requires { ⌜ (2 * count ≤ length (now table)) × (count ≤ 512) × (k < 4096) ⌝ }
+    ensures { λ r. ⌜ r ≡ byteAt (startFields (now (table .entry)) count) k ⌝ }
+{
+    let i = 4 * k;
+    let a = start_field(table, count, i);
+    let b = start_field(table, count, i + 1);
+    let c = start_field(table, count, i + 2);
+    let d = start_field(table, count, i + 3);
+    three::byte_of(a, b, c, d)
+}
+
+// "Cube 0 is the resets."
+fn store_start(table: &[u16], count: usize, cubes: &mut [u8])
+    requires { ⌜ (2 * count ≤ length (now table)) × (count ≤ 512) × (bytesFor count ≤ length (now cubes)) ⌝ }
+    ensures { λ _. ⌜ now (cubes .exit) ≡ over (pack (startFields (now (table .entry)) count)) (now (cubes .entry)) ⌝ }
+{
+    for k in 0..three::record_length(count) {
+        cubes[k] = start_byte(table, count, k);
+    }
+}
+
+// The run's b after the cube at byte `at`: its next state, with held latches set to X.
+fn reach(counts: Counts, table: &[u16], cubes: &[u8], at: usize, held: [u8; 128], values: &mut [u8; 4096], b: &mut [u8; 128])
+    requires { ⌜ Legal counts (now table) × (at ≤ length (now cubes)) × IsRecord (counts .latches) (drop at (now cubes)) × Ready counts (now values) × (length (now b) ≡ 128) ⌝ }
+    ensures { λ _. ⌜ Ready counts (now (values .exit)) × (now (b .exit) ≡ paste (now (b .entry)) 0 (keptBytes (bytesFor (counts .latches)) held (pack (nextCube (circuitOf counts (now (table .entry))) (unpack (counts .latches) (drop at (now (cubes .entry)))))) ) (bytesFor (counts .latches))) ⌝ }
+{
+    circuit::settle_state(counts, table, &cubes[at..], values);
+    let mut next = [0u8; 128];
+    circuit::store(values, table, 0, 2, counts.latches, &mut next);
+    store_kept(&next, held, three::record_length(counts.latches), b, 0);
+}
+
+// "how many cubes are stored, which latches are held unknown"
+pub struct Progress {
+    pub count: usize,
+    pub held: [u8; 128],
+}
+
+impl Progress {
+    // Stores b as the next cube, widened first where it is due.
+    fn advance(mut self, cubes: &mut [u8], len: usize, w: usize, b: &[u8]) -> Self
+        requires { ⌜ (1 ≤ self .count) × (self .count < 65536) × (len ≤ 128) × (self .count * len + len ≤ length (now cubes)) × (len ≤ length (now b)) ⌝ }
+        ensures { λ r. ⌜ Advanced (isDue w (self .count)) len self (now (cubes .entry)) (now (b .entry)) r (now (cubes .exit)) ⌝ }
+    {
+        let k = self.count;
+        let at = k * len;
+        let held = self.held;
+        let wider = held_after(due(w, k), held, cubes, at - len, b, len);
+        self.held = wider;
+        store_kept(b, wider, len, cubes, at);
+        self.count = k + 1;
+        self
+    }
+}

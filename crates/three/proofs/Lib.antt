@@ -4,3 +4,4 @@ pub mod Pack
 pub mod Merge
 pub mod Bytewise
 pub mod Counting
+pub mod Filling

@@ -1,7 +1,7 @@
 -- `circuit::gate` meets its contract: the AND table is looked up at the operands' values. Assumes nothing.
 use mathlib.Core.Path.{ap₂, _∙_}
 use Rattle.three.specs.Value.{code, both}
-use Rattle.circuit.proofs.Values.{is-small, is-decoded}
+use Rattle.three.proofs.Filling.{is-small, is-decoded}
 use native.Mathlib.Omega.{arith}
 use borrow.Author.Needs.{needs}
 use Rattle.circuit.proofs.gate.Statement.{statement}

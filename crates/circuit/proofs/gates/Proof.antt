@@ -1,7 +1,7 @@
 -- `circuit::gates` meets its contract: each gate is taken in turn, as `Turn` says. Assumes nothing.
 use Prim.Native.Nat.{_-_}
 use Rattle.circuit.specs.Working.{Working, valuesOf}
-use Rattle.circuit.proofs.Values.{is-small, is-decoded}
+use Rattle.three.proofs.Filling.{is-small, is-decoded}
 use Rattle.circuit.proofs.Passing.{Turn, turn-first, turn-next, turn-last, room}
 use native.Mathlib.Omega.{arith}
 use Rattle.circuit.proofs.gates.Statement.{statement}

@@ -1,7 +1,8 @@
 -- `circuit::literal` meets its contract: its variable's value, inverted where the literal is odd. Assumes nothing.
 use mathlib.Core.Path.{ap, _∙_}
 use Rattle.three.specs.Value.{code, inverse}
-use Rattle.circuit.proofs.Values.{is-small, is-decoded, value-even, value-odd}
+use Rattle.three.proofs.Filling.{is-small, is-decoded}
+use Rattle.circuit.proofs.Values.{value-even, value-odd}
 use native.Mathlib.Omega.{arith}
 use borrow.Author.Needs.{needs}
 use Rattle.circuit.proofs.literal.Statement.{statement}

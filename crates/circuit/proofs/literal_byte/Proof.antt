@@ -1,5 +1,5 @@
 -- `circuit::literal_byte` meets its contract: its four fields are read, and packed. Assumes nothing.
-use Rattle.circuit.proofs.Values.{is-small, four-fields}
+use Rattle.three.proofs.Filling.{is-small, four-fields}
 use native.Mathlib.Omega.{arith}
 use borrow.Author.Needs.{needs}
 use Rattle.circuit.proofs.literal_byte.Statement.{statement}
@@ -33,7 +33,7 @@ byte-of-requires : tie.Need-byte-of-requires
 byte-of-requires c κs = (is-small _ (c .before .before .before .literal-field .ensures), is-small _ (c .before .before .literal-field2 .ensures), is-small _ (c .before .literal-field3 .ensures), is-small _ (c .literal-field4 .ensures))
 
 returns : tie.Need-returns
-returns c = four-fields _ _ _ _ _ _ (c .before .before .before .before .literal-field .ensures) (c .before .before .before .literal-field2 .ensures) (c .before .before .literal-field3 .ensures) (c .before .literal-field4 .ensures) (c .byte-of .ensures)
+returns c = four-fields _ _ (c .before .before .before .before .literal-field .ensures) (c .before .before .before .literal-field2 .ensures) (c .before .before .literal-field3 .ensures) (c .before .literal-field4 .ensures) (c .byte-of .ensures)
 
 pub literal-byte-spec : {M : Type 1} → statement M
 literal-byte-spec =

@@ -3,7 +3,8 @@ use Prim.Native.Nat.{_-_}
 use Rattle.three.specs.Record.{bytesFor, pack}
 use Rattle.three.proofs.Lists.{Stored, stored-first}
 use Rattle.circuit.specs.Working.{valuesOf, literalValues}
-use Rattle.circuit.proofs.Values.{store-next, store-last}
+use Rattle.three.proofs.Filling.{fill-next, fill-last}
+use Rattle.circuit.proofs.Values.{length-literals}
 use native.Mathlib.Omega.{arith}
 use Rattle.circuit.proofs.store.Statement.{statement}
 use Rattle.circuit.proofs.store.Tie as tie
@@ -35,13 +36,13 @@ loop-less c = omega arith
 loop-again : tie.Need-loop-again Inv-loop μ-loop
 loop-again c =
     let pre = c .before .before .before .before .before .before .pre in
-    store-next _ _ _ _ _ _ _ _ _ (pre .3) (c .before .before .loop .inv) (omega arith) (c .literal-byte .ensures)
+    fill-next _ _ (length-literals _ _ _ _ _) _ _ _ _ (pre .3) (c .before .before .loop .inv) (omega arith) (c .literal-byte .ensures)
 
 same-length : tie.Need-same-length Inv-loop μ-loop
 same-length c = c .before .loop .inv .long
 
 returns : tie.Need-returns Inv-loop μ-loop
-returns c = store-last _ _ _ _ _ _ _ _ (c .before .loop .inv) (omega arith)
+returns c = fill-last _ _ (length-literals _ _ _ _ _) _ _ _ (c .before .loop .inv) (omega arith)
 
 pub store-spec : {M : Type 1} → statement M
 store-spec =

@@ -1,0 +1,18 @@
+-- `run::differing` meets its contract: it is the definition, and three times at most 85. Assumes nothing.
+use mathlib.Core.Path.{refl}
+use Rattle.run.specs.Bytes.{differingByte}
+use Rattle.run.proofs.Keeping.{differing-small}
+use native.Mathlib.Omega.{arith}
+use Rattle.run.proofs.differing.Statement.{statement}
+use Rattle.run.proofs.differing.Tie as tie
+
+mul-result : tie.Need-mul-result
+unfolding differingByte
+mul-result c = record { fits = differing-small (c .args .a) (c .args .b) }
+
+returns : tie.Need-returns
+unfolding differingByte
+returns c = refl
+
+pub differing-spec : {M : Type 1} → statement M
+differing-spec = tie.close (tie.spec mul-result returns)
