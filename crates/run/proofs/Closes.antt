@@ -58,7 +58,7 @@ widened-sized true s b = length-adjust _||_ (s .held) (differing (s .cube) b)
 widened-sized false s b = refl
 
 module _ (c : Circuit) (w : ℕ) where
-  held-sized : (k : ℕ) → length (stage c w k .held) ≡ length (c .latches)
+  pub held-sized : (k : ℕ) → length (stage c w k .held) ≡ length (c .latches)
   unfolding stage store
   held-sized zero = length-map (c .latches) _
   held-sized (suc k) = widened-sized _ (stage c w k) _ ∙ held-sized k

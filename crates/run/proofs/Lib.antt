@@ -8,3 +8,7 @@ pub mod Searching
 pub mod Keeping
 pub mod Starting
 pub mod Reaching
+pub mod Storing
+pub mod Pairs
+pub mod Chaining
+pub mod Following

@@ -12,7 +12,7 @@ use lib.Bits.{bitAnd}
 use lib.Dec.{eqb}
 use lib.ListN.{length, getD}
 use Rattle.three.specs.Lists.{every}
-use Rattle.three.proofs.Lists.{Tried, tried-first, tried-next, every-all, every-fails}
+use Rattle.three.proofs.Lists.{by-test, Tried, tried-first, tried-next, every-all, every-fails}
 use Rattle.run.specs.Bytes.{coversFrom, first}
 
 -- ---- the first number at which a test holds
@@ -28,6 +28,14 @@ pub first-none : (n : ℕ) (p : ℕ → Bool) → ((m : ℕ) → m < n → p m �
 unfolding first
 first-none zero p none = refl
 first-none (suc n) p none = rw (first, none 0 (omega arith)) (ap suc (first-none n (λ i. p (suc i)) (λ m l. none (suc m) (suc-le-suc l))))
+
+-- tests that agree below n
+pub first-ext : (n : ℕ) (p q : ℕ → Bool) → ((k : ℕ) → k < n → p k ≡ q k) → first n p ≡ first n q
+unfolding first
+first-ext zero p q h = refl
+first-ext (suc n) p q h = by-test (q 0)
+    (λ e. rw (first, h 0 (omega arith), e))
+    (λ e. rw (first, h 0 (omega arith), e) (ap suc (first-ext n (λ i. p (suc i)) (λ i. q (suc i)) (λ k l. h (suc k) (suc-le-suc l)))))
 
 -- ---- the two loops
 

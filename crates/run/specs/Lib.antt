@@ -1,4 +1,5 @@
 pub mod Run
 pub mod Bytes
+pub mod Call
 pub mod Execution
 pub mod Bench

@@ -12,6 +12,7 @@ ghost use Rattle.circuit.specs.Table.{circuitOf, Legal};
 ghost use Rattle.circuit.specs.Working.{Working};
 ghost use Rattle.run.specs.Run.{due as isDue, nextCube, lampsIn, start};
 ghost use Rattle.run.specs.Bytes.{cubeIn, startFields, keptByte, differingByte, heldAfter, widenedBytes, keptBytes, coversFrom, first, Advanced, Ready};
+ghost use Rattle.run.specs.Call.{Followable, Chained};
 
 // The most bytes of a state record.
 const MOST_BYTES: usize = 128;
@@ -137,9 +138,17 @@ fn store_start(table: &[u16], count: usize, cubes: &mut [u8])
 }
 
 // The run's b after the cube at byte `at`: its next state, with held latches set to X.
-fn reach(counts: Counts, table: &[u16], cubes: &[u8], at: usize, held: [u8; 128], values: &mut [u8; 4096], b: &mut [u8; 128])
+fn reach(
+    counts: Counts,
+    table: &[u16],
+    cubes: &[u8],
+    at: usize,
+    held: [u8; 128],
+    values: &mut [u8; 4096],
+    b: &mut [u8; 128],
+)
     requires { ⌜ Legal counts (now table) × (at ≤ length (now cubes)) × IsRecord (counts .latches) (drop at (now cubes)) × Ready counts (now values) × (length (now b) ≡ 128) ⌝ }
-    ensures { λ _. ⌜ Ready counts (now (values .exit)) × (now (b .exit) ≡ paste (now (b .entry)) 0 (keptBytes (bytesFor (counts .latches)) held (pack (nextCube (circuitOf counts (now (table .entry))) (unpack (counts .latches) (drop at (now (cubes .entry)))))) ) (bytesFor (counts .latches))) ⌝ }
+    ensures { λ _. ⌜ Ready counts (now (values .exit)) × (now (b .exit) ≡ paste (now (b .entry)) 0 (keptBytes (bytesFor (counts .latches)) held (pack (nextCube (circuitOf counts (now (table .entry))) (unpack (counts .latches) (drop at (now (cubes .entry))))))) (bytesFor (counts .latches))) ⌝ }
 {
     circuit::settle_state(counts, table, &cubes[at..], values);
     let mut next = [0u8; 128];
@@ -167,5 +176,62 @@ impl Progress {
         store_kept(b, wider, len, cubes, at);
         self.count = k + 1;
         self
+    }
+}
+
+// Closed with `count` cubes back to number `back`, or no room for a cube more.
+pub struct Chain {
+    pub closed: bool,
+    pub count: usize,
+    pub back: usize,
+}
+
+// Goes on from cube 0, which stands in the buffer, to the cube that falls inside a stored one, or as far as there is room.
+fn follow(
+    counts: Counts,
+    table: &[u16],
+    w: usize,
+    len: usize,
+    room: usize,
+    cubes: &mut [u8],
+) -> Chain
+    requires { ⌜ Followable counts (now table) len room (now cubes) ⌝ }
+    ensures { λ r. ⌜ Chained counts (now (table .entry)) w (now (cubes .entry)) r (now (cubes .exit)) ⌝ }
+{
+    let mut values = [0u8; 4096];
+    circuit::put_variable(&mut values, 0, 1);
+    let mut b = [0u8; 128];
+    let mut progress = Progress {
+        count: 1,
+        held: [0u8; 128],
+    };
+    loop {
+        let count = progress.count;
+        let held = progress.held;
+        reach(
+            counts,
+            table,
+            cubes,
+            (count - 1) * len,
+            held,
+            &mut values,
+            &mut b,
+        );
+        let back = search(cubes, len, count, &b);
+        if back < count {
+            return Chain {
+                closed: true,
+                count,
+                back,
+            };
+        }
+        if count == room {
+            return Chain {
+                closed: false,
+                count,
+                back: 0,
+            };
+        }
+        progress = progress.advance(cubes, len, w, &b);
     }
 }

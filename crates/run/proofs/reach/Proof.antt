@@ -17,7 +17,7 @@ part-settle-state-end : tie.Need-part-settle-state-end
 part-settle-state-end c = search needs
 
 settle-state-requires : tie.Need-settle-state-requires
-settle-state-requires c κs = 
+settle-state-requires c κs =
     let pre = c .before .before .before .before .pre in
     (pre .0, rw part-tail (pre .2), pre .3 .working)
 
@@ -25,7 +25,7 @@ slice-aggregate-store : tie.Need-slice-aggregate-store
 slice-aggregate-store c = search needs
 
 store-requires : tie.Need-store-requires
-store-requires c κs = 
+store-requires c κs =
     let pre = c .before .before .before .before .before .before .before .pre in
     (next-readable _ _ (pre .0), c .before .before .settle-state .ensures .working, omega arith, omega (arith, pre .0 .bounded))
 
@@ -39,7 +39,7 @@ store-kept-requires : tie.Need-store-kept-requires
 store-kept-requires c κs = search needs
 
 returns : tie.Need-returns
-returns c = 
+returns c =
     let pre = c .before .before .before .before .before .before .before .before .before .before .before .before .before .pre in
     let begins = ready-settles _ _ _ _ _ (pre .3) (rw part-tail at (c .before .before .before .before .before .before .before .before .settle-state .ensures)) in
     (ready-again _ _ _ _ begins, reach-stored _ _ (pre .0) _ (length-unpack _ _) _ begins _ _ _ _ _ _ (c .before .before .record-length .ensures) (c .before .before .before .before .before .store .ensures) (c .store-kept .ensures))
