@@ -9,16 +9,19 @@ use lib.ListN.{length, drop, replicate}
 use lib.Seq.{paste, length-paste}
 use Rattle.three.specs.Lists.{over}
 use Rattle.three.specs.Record.{bytesFor, pack, unpack, IsRecord}
+use Rattle.three.proofs.Pack.{length-pack}
 use Rattle.circuit.specs.declared.Counts.{Counts}
 use Rattle.circuit.specs.Table.{circuitOf, Legal}
 use Rattle.run.specs.declared.Progress.{Progress}
 use Rattle.run.specs.declared.Chain.{Chain}
 use Rattle.run.specs.Run.{due, nextCube, cubeAt, Outcome, closed, full, run}
-use Rattle.run.specs.Bytes.{packedCubes, keptBytes, coversFrom, first, Advanced, Ready}
+use Rattle.run.specs.Bytes.{startFields, packedCubes, keptBytes, coversFrom, first, Advanced, Ready}
 use Rattle.run.specs.Call.{roomIn, storedCubes, isClosed, backTo, Chained, Followable}
-use Rattle.run.proofs.Keeping.{length-kept}
-use Rattle.run.proofs.Storing.{records}
-use Rattle.run.proofs.Chaining.{Going, Reached, same-length, all-fits, last-at, last-record, reached-b, closes-at, goes-on, going-first, going-next}
+use Rattle.run.proofs.Keeping.{length-kept, behind-one}
+use Rattle.run.proofs.Merging.{over-over, length-over}
+use Rattle.run.proofs.Starting.{start-sized}
+use Rattle.run.proofs.Storing.{records, records-sized}
+use Rattle.run.proofs.Chaining.{cubes-sized, Going, Reached, same-length, all-fits, last-at, last-record, reached-b, closes-at, goes-on, going-first, going-next}
 use Rattle.run.proofs.Steps.{run-stays}
 
 module _ (c : Counts) (words : List ℕ) (w len room : ℕ) (buffer : List ℕ) (f : Followable c words len room buffer) where
@@ -75,7 +78,7 @@ module _ (c : Counts) (words : List ℕ) (w len room : ℕ) (buffer : List ℕ) 
       closed-now h =
           let e : run (circuitOf c words) w (roomIn c buffer) ≡ closed count back =
           rw (← (f .has-room), ← add-sub-of-le (t .within)) (run-stays (circuitOf c words) w count (room - count) count back (closes-at c words w buffer g b′ r back sought′ h)) in
-          record { closes = rw e; counts = rw e; goes-back = rw e; fills = g .stored }
+          record { closes = rw e; counts = rw e; goes-back = rw e; some = some-cubes; fills = g .stored }
 
       open-yet : count ≤ back → run (circuitOf c words) w count ≡ full
       open-yet h = goes-on c words w buffer g b′ r back sought′ h
@@ -86,7 +89,7 @@ module _ (c : Counts) (words : List ℕ) (w len room : ℕ) (buffer : List ℕ) 
       full-now h e =
           let room= : count ≡ roomIn c buffer = e ∙ f .has-room in
           let o : run (circuitOf c words) w (roomIn c buffer) ≡ full = rw (← room=) (open-yet h) in
-          record { closes = rw o; counts = rw (o) room=; goes-back = rw o; fills = g .stored }
+          record { closes = rw o; counts = rw (o) room=; goes-back = rw o; some = some-cubes; fills = g .stored }
 
       -- or one cube more is stored
       module _ (h : count ≤ back) (more : count ≡ room → ⊥) where
@@ -120,4 +123,41 @@ module _ (c : Counts) (words : List ℕ) (w len room : ℕ) (buffer : List ℕ) 
     going = going-first c words w buffer buffer values (f .legal .bounded .latches) (f .one) (f .begun) r;
     within = rw (f .has-room) (le-div-iff-mul-le {k = bytesFor (c .latches)} (omega arith) .1 (omega (arith, one-mul (bytesFor (c .latches)), f .one)));
     long = l;
+  }
+
+-- ---- cube 0 is stored first
+
+module _ (c : Counts) (words : List ℕ) (w : ℕ) (buffer cubes : List ℕ) (one : bytesFor (c .latches) ≤ length buffer) (begun : cubes ≡ over (pack (startFields words (c .latches))) buffer) where
+  start-long : length (pack (startFields words (c .latches))) ≡ bytesFor (c .latches)
+  start-long = rw (length-pack, start-sized)
+
+  start-length : length cubes ≡ length buffer
+  start-length = ap length begun ∙ length-over _ buffer (omega (arith, start-long))
+
+  same-room : roomIn c cubes ≡ roomIn c buffer
+  unfolding roomIn
+  same-room = ap (λ (n : ℕ). n / bytesFor (c .latches)) start-length
+
+  pub start-followable : Legal c words → length buffer ≤ 65536 → (len room : ℕ) → len ≡ bytesFor (c .latches) → room ≡ length cubes / len → Followable c words len room cubes
+  unfolding roomIn
+  start-followable legal small len room el er = record {
+    legal = legal;
+    size = el;
+    has-room = er ∙ ap (λ (n : ℕ). length cubes / n) el;
+    one = omega (arith, start-length);
+    small = omega (arith, start-length);
+    begun = begun ∙ sym (ap (over (pack (startFields words (c .latches)))) begun ∙ over-over _ _ buffer (omega arith));
+  }
+
+  pub chained-from : (r : Chain) (cubes′ : List ℕ) → Chained c words w cubes r cubes′ → Chained c words w buffer r cubes′
+  unfolding packedCubes records
+  chained-from r cubes′ h = record {
+    closes = rw same-room at (h .closes);
+    counts = rw same-room at (h .counts);
+    goes-back = rw same-room at (h .goes-back);
+    some = h .some;
+    fills =
+        h .fills ∙ ap (over (packedCubes (circuitOf c words) w (r .count))) begun
+        ∙ over-over (pack (startFields words (c .latches))) _ buffer
+        (omega (arith, start-long, records-sized (c .latches) (cubeAt (circuitOf c words) w) (cubes-sized c words w buffer) (r .count), behind-one (bytesFor (c .latches)) (h .some)));
   }

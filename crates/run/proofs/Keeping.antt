@@ -7,7 +7,7 @@ use native.Mathlib.Nat.{zero-add, one-mul, mul-le-mul-right}
 use native.Mathlib.Omega.{arith}
 use lib.Bits.{bitAnd, bitOr, bitXor, and-le-r}
 use lib.Dec.{eqb}
-use lib.ListN.{length, getD, set, drop}
+use lib.ListN.{length, getD, set, drop, length-drop}
 use lib.Seq.{paste, getD-drop}
 use Rattle.three.specs.Lists.{tabulate}
 use Rattle.three.proofs.Lists.{Stored, stored-next, getD-paste, length-tabulate, getD-tabulate}
@@ -74,3 +74,11 @@ due-held len held a b q = ap (λ d. heldAfter d len held a b) q
 
 pub behind-one : {n : ℕ} (len : ℕ) → 1 ≤ n → len ≤ n * len
 behind-one {n} len h = omega (arith, mul-le-mul-right len h, one-mul len)
+
+-- ---- a cube copied
+
+pub copy-next : (cubes : List ℕ) (at len : ℕ) (out₀ out : List ℕ) (i : ℕ) → at + len ≤ length cubes → len ≤ length out₀ → Stored out₀ 0 (drop at cubes) len out i → i < len
+    → Stored out₀ 0 (drop at cubes) len (set out i (getD cubes (at + i) 0)) (i + 1)
+copy-next cubes at len out₀ out i from room s h =
+    rw zero-add at
+    (stored-next out₀ 0 (drop at cubes) len (omega arith) (omega (arith, length-drop at cubes)) out i (getD cubes (at + i) 0) 0 s h (sym (getD-drop at cubes i 0)))

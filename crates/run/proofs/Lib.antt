@@ -12,3 +12,5 @@ pub mod Storing
 pub mod Pairs
 pub mod Chaining
 pub mod Following
+pub mod Merging
+pub mod Judging

@@ -1,7 +1,7 @@
 -- A working table with all switches X serves pass after pass: each gives the circuit's values for the state that was loaded. Assumes nothing.
 use mathlib.Core.Path.{_≡_, refl, sym, ap, _∙_}
 use mathlib.Core.List.{List, [], _∷_, _++_, map, append-assoc}
-use Prim.Native.Nat.{ℕ, zero, suc, _+_, _-_, _≤_}
+use Prim.Native.Nat.{ℕ, zero, suc, _+_, _*_, _-_, _≤_}
 use native.Mathlib.Numerals.{one-add}
 use native.Mathlib.Omega.{arith}
 use lib.ListN.{length, getD, set, take, drop, replicate, length-drop, length-replicate, length-append, List·getD-append}
@@ -16,9 +16,9 @@ use Rattle.circuit.specs.declared.Counts.{Counts}
 use Rattle.circuit.specs.Circuit.{Circuit, Gate, pass, settle}
 use Rattle.circuit.specs.Table.{circuitOf, Legal}
 use Rattle.circuit.specs.Working.{valuesOf, Holding, Begins, literalValues}
-use Rattle.circuit.proofs.Settling.{next-stored}
+use Rattle.circuit.proofs.Settling.{next-stored, lamps-stored}
 use Rattle.circuit.proofs.Values.{length-literals}
-use Rattle.run.specs.Run.{switchesUnknown, nextCube}
+use Rattle.run.specs.Run.{switchesUnknown, nextCube, lampsIn}
 use Rattle.run.specs.Bytes.{keptByte, keptBytes, Ready}
 
 -- a pass leaves what it starts from
@@ -108,3 +108,11 @@ module _ (c : Counts) (words : List ℕ) (legal : Legal c words) (state : Cube) 
     where
       unknown-sized : length (switchesUnknown circuit) ≡ c .inputs
       unknown-sized = unfold switchesUnknown circuitOf in length-replicate (c .inputs) unknown
+
+-- ---- the lamps that are stored from a pass
+
+module _ (c : Counts) (words : List ℕ) (legal : Legal c words) (state : Cube) (sized : length state ≡ c .latches) (t : List ℕ) where
+  pub lamps-reached : Begins t (settle ternary (circuitOf c words) (switchesUnknown (circuitOf c words)) state)
+      → literalValues (valuesOf t) words (2 * c .latches) 1 (c .lamps) ≡ lampsIn (circuitOf c words) state
+  unfolding lampsIn
+  lamps-reached begins = lamps-stored c words legal (switchesUnknown (circuitOf c words)) state (unfold switchesUnknown circuitOf in length-replicate (c .inputs) unknown) sized t begins

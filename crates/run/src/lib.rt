@@ -10,9 +10,9 @@ ghost use Rattle.three.specs.Value.{unknown, code};
 ghost use Rattle.three.specs.Record.{bytesFor, byteAt, pack, unpack, IsRecord};
 ghost use Rattle.circuit.specs.Table.{circuitOf, Legal};
 ghost use Rattle.circuit.specs.Working.{Working};
-ghost use Rattle.run.specs.Run.{due as isDue, nextCube, lampsIn, start};
+ghost use Rattle.run.specs.Run.{due as isDue, nextCube, lampsIn, verdict as verdictOf, settled as settledOf};
 ghost use Rattle.run.specs.Bytes.{cubeIn, startFields, keptByte, differingByte, heldAfter, widenedBytes, keptBytes, coversFrom, first, Advanced, Ready};
-ghost use Rattle.run.specs.Call.{Followable, Chained};
+ghost use Rattle.run.specs.Call.{Followable, Chained, Judgeable, Settleable};
 
 // The most bytes of a state record.
 const MOST_BYTES: usize = 128;
@@ -233,5 +233,74 @@ fn follow(
             };
         }
         progress = progress.advance(cubes, len, w, &b);
+    }
+}
+
+// The cubes of a run, its n and its j.
+fn make_chain(counts: Counts, table: &[u16], w: usize, cubes: &mut [u8]) -> Chain
+    requires { ⌜ Legal counts (now table) × (bytesFor (counts .latches) ≤ length (now cubes)) × (length (now cubes) ≤ 65536) ⌝ }
+    ensures { λ r. ⌜ Chained counts (now (table .entry)) w (now (cubes .entry)) r (now (cubes .exit)) ⌝ }
+{
+    let len = three::record_length(counts.latches);
+    store_start(table, counts.latches, cubes);
+    follow(counts, table, w, len, cubes.len() / len, cubes)
+}
+
+// The record of the lamps in the cube at byte `at`.
+fn lamps_at(
+    counts: Counts,
+    table: &[u16],
+    cubes: &[u8],
+    at: usize,
+    values: &mut [u8; 4096],
+    out: &mut [u8],
+)
+    requires { ⌜ Legal counts (now table) × (at ≤ length (now cubes)) × IsRecord (counts .latches) (drop at (now cubes)) × Ready counts (now values) × (bytesFor (counts .lamps) ≤ length (now out)) ⌝ }
+    ensures { λ _. ⌜ Ready counts (now (values .exit)) × (now (out .exit) ≡ over (pack (lampsIn (circuitOf counts (now (table .entry))) (unpack (counts .latches) (drop at (now (cubes .entry)))))) (now (out .entry))) ⌝ }
+{
+    circuit::settle_state(counts, table, &cubes[at..], values);
+    circuit::store(values, table, 2 * counts.latches, 1, counts.lamps, out);
+}
+
+// "per lamp 01 (never) if 0 in all n cubes, 10 (always) if 1 in all, else 00 (open)"
+fn judge_lamps(
+    counts: Counts,
+    table: &[u16],
+    cubes: &[u8],
+    len: usize,
+    n: usize,
+    verdict: &mut [u8],
+)
+    requires { ⌜ Judgeable counts (now table) len n (now cubes) × (bytesFor (counts .lamps) ≤ length (now verdict)) ⌝ }
+    ensures { λ _. ⌜ now (verdict .exit) ≡ over (pack (verdictOf (circuitOf counts (now (table .entry))) (cubeIn (counts .latches) (now (cubes .entry))) n)) (now (verdict .entry)) ⌝ }
+{
+    let mut values = [0u8; 4096];
+    circuit::put_variable(&mut values, 0, 1);
+    lamps_at(counts, table, cubes, 0, &mut values, verdict);
+    let mut lamps = [0u8; 16];
+    for k in 1..n {
+        lamps_at(counts, table, cubes, k * len, &mut values, &mut lamps);
+        three::agree(verdict, &lamps, counts.lamps);
+    }
+}
+
+// The cube at byte `at`, into the front of `out`.
+fn copy_cube(cubes: &[u8], at: usize, len: usize, out: &mut [u8])
+    requires { ⌜ (at + len ≤ length (now cubes)) × (len ≤ length (now out)) ⌝ }
+    ensures { λ _. ⌜ now (out .exit) ≡ paste (now (out .entry)) 0 (drop at (now (cubes .entry))) len ⌝ }
+{
+    for i in 0..len {
+        out[i] = cubes[at + i];
+    }
+}
+
+// "per latch the known value shared by cubes j to n − 1, else 00"
+fn settle_latches(latches: usize, cubes: &[u8], len: usize, n: usize, j: usize, settled: &mut [u8])
+    requires { ⌜ Settleable latches len n j (now cubes) × (bytesFor latches ≤ length (now settled)) ⌝ }
+    ensures { λ _. ⌜ now (settled .exit) ≡ over (pack (settledOf (cubeIn latches (now (cubes .entry))) n j)) (now (settled .entry)) ⌝ }
+{
+    copy_cube(cubes, j * len, len, settled);
+    for k in j + 1..n {
+        three::agree(settled, &cubes[k * len..], latches);
     }
 }

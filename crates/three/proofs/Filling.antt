@@ -1,5 +1,5 @@
 -- A loop that fills a buffer with the record of these fields, a byte of four fields each turn. Assumes nothing.
-use mathlib.Core.Path.{_≡_, sym, _∙_}
+use mathlib.Core.Path.{_≡_, sym, ap, _∙_}
 use mathlib.Core.List.{List}
 use Prim.Native.Nat.{ℕ, _+_, _*_, _<_, _≤_}
 use native.Mathlib.Nat.{zero-add}
@@ -18,6 +18,10 @@ is-small v e = rw e (code-small v)
 
 pub is-decoded : {r : ℕ} (v : Three) → r ≡ code v → decode r ≡ v
 is-decoded v e = rw e (decode-code v)
+
+-- equal fields are stored alike
+pub over-fields : {out : List ℕ} (buffer : List ℕ) {fields fields′ : Cube} → out ≡ over (pack fields) buffer → fields ≡ fields′ → out ≡ over (pack fields′) buffer
+over-fields buffer e f = e ∙ ap (λ (x : Cube). over (pack x) buffer) f
 
 module _ (fields : Cube) where
   -- four fields make a byte

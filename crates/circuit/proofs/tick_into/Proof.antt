@@ -1,10 +1,5 @@
 -- `circuit::tick_into` meets its contract: one pass is made, and its values are stored twice. Assumes nothing.
-use mathlib.Core.Path.{_≡_, ap, _∙_}
-use mathlib.Core.List.{List}
-use Prim.Native.Nat.{ℕ}
-use Rattle.three.specs.Lists.{over}
-use Rattle.three.specs.Cube.{Cube}
-use Rattle.three.specs.Record.{pack}
+use Rattle.three.proofs.Filling.{over-fields}
 use Rattle.three.proofs.Pack.{length-unpack}
 use Rattle.circuit.specs.Tick.{nextFields, lampFields}
 use Rattle.circuit.proofs.Settling.{fresh, next-readable, lamps-readable, next-stored, lamps-stored}
@@ -12,9 +7,6 @@ use native.Mathlib.Omega.{arith}
 use borrow.Author.Needs.{needs}
 use Rattle.circuit.proofs.tick_into.Statement.{statement}
 use Rattle.circuit.proofs.tick_into.Tie as tie
-
-stored : {out : List ℕ} (buffer : List ℕ) {fields fields′ : Cube} → out ≡ over (pack fields) buffer → fields ≡ fields′ → out ≡ over (pack fields′) buffer
-stored buffer e f = e ∙ ap (λ (x : Cube). over (pack x) buffer) f
 
 settle-requires : tie.Need-settle-requires
 settle-requires c κs =
@@ -45,8 +37,8 @@ unfolding nextFields lampFields
 returns c =
     let legal = c .before .before .before .before .before .before .before .before .before .before .before .before .before .before .before .before .before .before .pre .0 in
     let values = c .before .before .before .before .before .before .before .before .before .before .before .settle .ensures in (
-      stored _ (c .before .before .before .before .before .before .before .before .store .ensures) (next-stored _ _ legal _ _ (length-unpack _ _) (length-unpack _ _) _ values),
-      stored _ (c .before .before .store2 .ensures) (lamps-stored _ _ legal _ _ (length-unpack _ _) (length-unpack _ _) _ values),
+      over-fields _ (c .before .before .before .before .before .before .before .before .store .ensures) (next-stored _ _ legal _ _ (length-unpack _ _) (length-unpack _ _) _ values),
+      over-fields _ (c .before .before .store2 .ensures) (lamps-stored _ _ legal _ _ (length-unpack _ _) (length-unpack _ _) _ values),
     )
 
 pub tick-into-spec : {M : Type 1} → statement M
