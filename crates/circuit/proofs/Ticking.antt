@@ -27,7 +27,7 @@ use Rattle.circuit.proofs.Values.{value-take}
 -- ---- a circuit that is not refused is legal
 
 module _ (c : Counts) (table : List ℕ) where
-  legal-passed : Passed (circuitTests c table) → Legal c table
+  pub legal-passed : Passed (circuitTests c table) → Legal c table
   unfolding circuitTests ceilingTests latchKept lampKept gateKept
   legal-passed p =
       let rules = and-parts (Latches c table) (Lamps c table && Gates c table) (sym (table-rules c table) ∙ p .1 .1 .1 .1 .1 .0) in
@@ -54,7 +54,7 @@ module _ (c : Counts) (table : List ℕ) where
             let below : getD table (2 * c .latches + c .lamps + 2 * k + 1) 0 < own = ltb-true _ _ (and-parts (ltb (getD table (2 * c .latches + c .lamps + 2 * k) 0) own) _ (gate k h) .1) in omega arith;
       }
 
-  circuit-numbered : Numbered (circuitTests c table)
+  pub circuit-numbered : Numbered (circuitTests c table)
   unfolding circuitTests ceilingTests
   circuit-numbered = omega arith
 

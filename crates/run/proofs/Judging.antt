@@ -1,13 +1,13 @@
 -- The judge's two loops: the lamps merged over all cubes, and the latches over those from j on. Assumes nothing.
 use mathlib.Core.Path.{_≡_, refl, sym, ap, ap₂, _∙_}
-use mathlib.Core.List.{List, _++_}
+use mathlib.Core.List.{List, [], _++_}
 use Prim.Native.Nat.{ℕ, zero, suc, _+_, _*_, _-_, _<_, _≤_}
 use native.Mathlib.Nat.{zero-mul, suc-mul, sub-zero, mul-le-mul-right}
 use native.Mathlib.Omega.{arith}
 use lib.ListN.{length, getD, take, drop, length-map}
 use lib.Seq.{paste, getD-drop}
 use Rattle.three.specs.Lists.{over}
-use Rattle.three.specs.Cube.{Cube, merged}
+use Rattle.three.specs.Cube.{Cube, merged, knownFields}
 use Rattle.three.specs.Record.{bytesFor, pack, unpack, IsRecord}
 use Rattle.three.proofs.Lists.{length-tabulate}
 use Rattle.three.proofs.Pack.{length-pack, length-unpack, unpack-over, record-over, pack-unpack}
@@ -172,3 +172,23 @@ module _ (latches len n j : ℕ) (cubes : List ℕ) (s : Settleable latches len 
       where
         merged-long : length (pack (merge (cubeIn latches cubes) j (n - 1 - j))) ≡ bytesFor latches
         merged-long = rw (length-pack, merge-sized latches (cubeIn latches cubes) (cubeIn-sized latches cubes) j begun (n - 1 - j))
+
+-- ---- the judge
+
+module _ (c : Counts) (words : List ℕ) (n : ℕ) (cubes : List ℕ) (j : Judgeable c words (bytesFor (c .latches)) n cubes) where
+  pub judgeable-len : (len : ℕ) → len ≡ bytesFor (c .latches) → Judgeable c words len n cubes
+  judgeable-len len e = rw e j
+
+  pub settleable : (len : ℕ) → len ≡ bytesFor (c .latches) → (k : ℕ) → k < n → Settleable (c .latches) len n k cubes
+  settleable len e k h = rw e (record { few = j .legal .bounded .latches; size = refl; below = h; fits = j .fits; cube = j .cube })
+
+  pub settled-record-of : (k : ℕ) (entry exit : List ℕ) → bytesFor (c .latches) ≤ length entry → exit ≡ over (pack (settled (cubeIn (c .latches) cubes) n k)) entry → IsRecord (c .latches) exit
+  unfolding settled
+  settled-record-of k entry exit room e = rw e (record-over (c .latches) _ entry (merge-sized (c .latches) (cubeIn (c .latches) cubes) (cubeIn-sized (c .latches) cubes) k [] (n - 1 - k)) room)
+
+  pub settled-known : (k s : ℕ) (entry exit : List ℕ) → exit ≡ over (pack (settled (cubeIn (c .latches) cubes) n k)) entry → s ≡ knownFields (unpack (c .latches) exit)
+      → s ≡ knownFields (settled (cubeIn (c .latches) cubes) n k)
+  unfolding settled
+  settled-known k s entry exit e es =
+      es ∙ ap (λ (l : List ℕ). knownFields (unpack (c .latches) l)) e
+      ∙ ap knownFields (unpack-over (c .latches) _ entry (merge-sized (c .latches) (cubeIn (c .latches) cubes) (cubeIn-sized (c .latches) cubes) k [] (n - 1 - k)))

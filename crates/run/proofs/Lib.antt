@@ -14,3 +14,4 @@ pub mod Chaining
 pub mod Following
 pub mod Merging
 pub mod Judging
+pub mod Refusing

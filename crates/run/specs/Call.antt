@@ -14,8 +14,9 @@ use Rattle.circuit.specs.Refusal.{Test, _or_, refusal, accepted}
 use Rattle.circuit.specs.Table.{circuitOf, Legal}
 use Rattle.circuit.specs.Tick.{circuitTests}
 use Rattle.run.specs.declared.Chain.{Chain}
+use Rattle.run.specs.declared.RunAnswer.{RunAnswer}
 use Rattle.run.specs.Run.{cubeAt, Outcome, closed, full, run, verdict, settled}
-use Rattle.run.specs.Bytes.{startFields, packedCubes}
+use Rattle.run.specs.Bytes.{cubeIn, startFields, packedCubes}
 
 -- ---- the chain: cubes, n and j
 
@@ -70,3 +71,73 @@ pub record Settleable (latches len n j : ℕ) (cubes : List ℕ) : Type 0 where
   pub below : j < n
   pub fits : n * len ≤ length cubes
   pub cube : (k : ℕ) → k < n → IsRecord latches (drop (k * len) cubes)
+
+-- what the judge leaves and answers
+pub record Judgement (c : Counts) (words cubes : List ℕ) (n j : ℕ) (verdict₀ settled₀ : List ℕ) (s : ℕ) (verdict₁ settled₁ : List ℕ) : Type 0 where
+  pub lamps : verdict₁ ≡ over (pack (verdict (circuitOf c words) (cubeIn (c .latches) cubes) n)) verdict₀
+  pub latches : settled₁ ≡ over (pack (settled (cubeIn (c .latches) cubes) n j)) settled₀
+  pub count : s ≡ knownFields (settled (cubeIn (c .latches) cubes) n j)
+
+-- ---- the public call
+
+-- 10 for results, by their lengths
+unfoldable pub resultTests : Counts → ℕ → ℕ → List Test
+resultTests c verdict settled = leb (bytesFor (c .lamps)) verdict or 10 ∷ leb (bytesFor (c .latches)) settled or 10 ∷ []
+
+-- 3, 10 for the table, 11, 12, 13, 10 for results; the buffers by their lengths
+unfoldable pub runTests : Counts → List ℕ → ℕ → ℕ → ℕ → ℕ → List Test
+runTests c table w cubes verdict settled =
+    circuitTests c table
+    ++ (leb w 1000 or 12
+    ∷ leb (bytesFor (c .latches)) cubes or 13
+    ∷ leb cubes 65536 or 13
+    ∷ resultTests c verdict settled)
+
+-- What a run is given: counts, table, w, and the three buffers as they are lent
+pub record Given : Type 0 where
+  pub counts : Counts
+  pub table : List ℕ
+  pub w : ℕ
+  pub cubes : List ℕ
+  pub verdict : List ℕ
+  pub settled : List ℕ
+
+module _ (g : Given) where
+  -- the first of the refusals before 15
+  unfoldable pub refusedBy : ℕ
+  refusedBy = refusal (runTests (g .counts) (g .table) (g .w) (length (g .cubes)) (length (g .verdict)) (length (g .settled)))
+
+  unfoldable pub circuitIn : Circuit
+  circuitIn = circuitOf (g .counts) (g .table)
+
+  unfoldable pub outcomeIn : Outcome
+  outcomeIn = run circuitIn (g .w) (roomIn (g .counts) (g .cubes))
+
+  -- n and j; n = room where there is no room for the next cube
+  unfoldable pub cubesIn : ℕ
+  cubesIn = storedCubes (roomIn (g .counts) (g .cubes)) outcomeIn
+
+  unfoldable pub backIn : ℕ
+  backIn = backTo outcomeIn
+
+  -- 15 where the run is not closed
+  unfoldable pub outcomeNumber : ℕ
+  outcomeNumber = elim outcomeIn [ closed n j ↦ 0 | full ↦ 15 ]
+
+  -- the verdict, the settled record and s of a closed run
+  unfoldable pub verdictFields : Cube
+  verdictFields = verdict circuitIn (cubeAt circuitIn (g .w)) cubesIn
+
+  unfoldable pub settledFields : Cube
+  settledFields = settled (cubeAt circuitIn (g .w)) cubesIn backIn
+
+-- The contract of the run: what it answers, and every byte of the three buffers at exit.
+-- A refusal before 15 answers zeros and changes nothing; 15 answers n = room and stores that many cubes, and leaves verdict and settled record.
+pub record Runs (g : Given) (r : RunAnswer) (cubes verdict settled : List ℕ) : Type 0 where
+  pub answers : r .number ≡ accepted (refusedBy g) (outcomeNumber g) (refusedBy g)
+  pub counts : r .cubes ≡ accepted (refusedBy g) (cubesIn g) 0
+  pub goes-back : r .back ≡ accepted (refusedBy g) (backIn g) 0
+  pub settles : r .settled ≡ accepted (r .number) (knownFields (settledFields g)) 0
+  pub fills-cubes : cubes ≡ accepted (refusedBy g) (over (packedCubes (circuitIn g) (g .w) (cubesIn g)) (g .cubes)) (g .cubes)
+  pub fills-verdict : verdict ≡ accepted (r .number) (over (pack (verdictFields g)) (g .verdict)) (g .verdict)
+  pub fills-settled : settled ≡ accepted (r .number) (over (pack (settledFields g)) (g .settled)) (g .settled)

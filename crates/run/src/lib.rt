@@ -12,10 +12,13 @@ ghost use Rattle.circuit.specs.Table.{circuitOf, Legal};
 ghost use Rattle.circuit.specs.Working.{Working};
 ghost use Rattle.run.specs.Run.{due as isDue, nextCube, lampsIn, verdict as verdictOf, settled as settledOf};
 ghost use Rattle.run.specs.Bytes.{cubeIn, startFields, keptByte, differingByte, heldAfter, widenedBytes, keptBytes, coversFrom, first, Advanced, Ready};
-ghost use Rattle.run.specs.Call.{Followable, Chained, Judgeable, Settleable};
+ghost use Rattle.run.specs.Call.{Followable, Chained, Judgeable, Settleable, Judgement, runTests};
+ghost use Rattle.circuit.specs.Refusal.{refusal};
 
-// The most bytes of a state record.
-const MOST_BYTES: usize = 128;
+// "Interval w is 0 to 1,000"
+const MOST_INTERVAL: usize = 1000;
+// "cube buffer .. over 65,536 bytes"
+const MOST_CUBE_BYTES: usize = 65536;
 
 // "If w is not 0 and divides k"
 fn due(w: usize, k: usize) -> bool
@@ -303,4 +306,66 @@ fn settle_latches(latches: usize, cubes: &[u8], len: usize, n: usize, j: usize, 
     for k in j + 1..n {
         three::agree(settled, &cubes[k * len..], latches);
     }
+}
+
+// The verdict, the settled record and s, from n cubes in the buffer that go back to number j.
+fn judge(
+    counts: Counts,
+    table: &[u16],
+    cubes: &[u8],
+    n: usize,
+    j: usize,
+    verdict: &mut [u8],
+    settled: &mut [u8],
+) -> usize
+    requires { ⌜ Judgeable counts (now table) (bytesFor (counts .latches)) n (now cubes) × (j < n) × (bytesFor (counts .lamps) ≤ length (now verdict)) × (bytesFor (counts .latches) ≤ length (now settled)) ⌝ }
+    ensures { λ r. ⌜ Judgement counts (now (table .entry)) (now (cubes .entry)) n j (now (verdict .entry)) (now (settled .entry)) r (now (verdict .exit)) (now (settled .exit)) ⌝ }
+{
+    let len = three::record_length(counts.latches);
+    judge_lamps(counts, table, cubes, len, n, verdict);
+    settle_latches(counts.latches, cubes, len, n, j, settled);
+    three::known_fields(settled, counts.latches)
+}
+
+// The refusals of a run before 15, in order, for buffers of these lengths; 0 for none.
+fn run_refusal(
+    counts: Counts,
+    table: &[u16],
+    w: usize,
+    cubes: usize,
+    verdict: usize,
+    settled: usize,
+) -> u32
+    ensures { λ r. ⌜ r ≡ refusal (runTests counts (now (table .entry)) w cubes verdict settled) ⌝ }
+{
+    let refused = circuit::circuit_refusal(counts, table);
+    if refused != 0 {
+        return refused;
+    }
+    if w > MOST_INTERVAL {
+        return 12;
+    }
+    let len = three::record_length(counts.latches);
+    if cubes < len {
+        return 13;
+    }
+    if cubes > MOST_CUBE_BYTES {
+        return 13;
+    }
+    if verdict < three::record_length(counts.lamps) {
+        return 10;
+    }
+    if settled < len {
+        return 10;
+    }
+    0
+}
+
+// "The call answers n, j and s, the number of settled latches."
+#[repr(C)]
+pub struct RunAnswer {
+    pub number: u32,
+    pub cubes: usize,
+    pub back: usize,
+    pub settled: usize,
 }
