@@ -9,7 +9,7 @@ use lib.Dec.{leb}
 use lib.ListN.{length}
 use Rattle.three.proofs.Lists.{by-test}
 use Rattle.circuit.specs.declared.Counts.{Counts}
-use Rattle.circuit.specs.Refusal.{Test, refusal, allHold, Passed}
+use Rattle.circuit.specs.Refusal.{Test, refusal, accepted, allHold, Passed}
 use Rattle.circuit.specs.Table.{top, tableLength, ceilingTests, kinds, tableTests, Bounded}
 use Rattle.circuit.specs.Tick.{circuitTests}
 
@@ -97,3 +97,14 @@ module _ (c : Counts) (table : List ℕ) where
   pub circuit-passes : Bounded c → tableLength c ≤ length table → allHold (tableTests (top c) (kinds c) table) ≡ true → 0 ≡ refusal (circuitTests c table)
   unfolding circuitTests
   circuit-passes b l h = past-ceilings b _ (past _ _ (le-leb (tableLength c) (length table) l) (past _ _ h none))
+
+-- ---- what a call leaves
+
+pub refused-old : {A : Type 0} (k : ℕ) (new old : A) → (k ≡ 0 → ⊥) → old ≡ accepted k new old
+unfolding accepted
+refused-old zero new old h = absurd (h refl)
+refused-old (suc k) new old h = refl
+
+pub accepted-new : {A : Type 0} (k : ℕ) (new old : A) → k ≡ 0 → new ≡ accepted k new old
+unfolding accepted
+accepted-new k new old z = rw z

@@ -20,7 +20,7 @@ use Rattle.circuit.specs.Refusal.{Test, _or_, refusal, Passed, accepted}
 use Rattle.circuit.specs.Table.{top, tableLength, ceilingTests, kinds, tableTests, latchKept, lampKept, gateKept, gatesFrom, circuitOf, Bounded, Legal}
 use Rattle.circuit.specs.Working.{valuesOf, Working, Begins, Readable, literalValues}
 use Rattle.circuit.specs.Tick.{circuitTests, recordTests, resultTests, Given, tickTests, nextFields, lampFields, Ticked}
-use Rattle.circuit.proofs.Refusals.{Numbered, stops, past, none, passes, passed-append, refusal-append, append-past}
+use Rattle.circuit.proofs.Refusals.{Numbered, stops, past, none, passes, passed-append, refusal-append, append-past, refused-old, accepted-new}
 use Rattle.circuit.proofs.Rules.{Latches, Lamps, Gates, table-rules}
 use Rattle.circuit.proofs.Values.{value-take}
 
@@ -162,15 +162,6 @@ module _ (c : Counts) (table state switches : List ℕ) (n l : ℕ) where
       }
 
 -- ---- what the tick leaves
-
-refused-old : {A : Type 0} (k : ℕ) (new old : A) → (k ≡ 0 → ⊥) → old ≡ accepted k new old
-unfolding accepted
-refused-old zero new old h = absurd (h refl)
-refused-old (suc k) new old h = refl
-
-accepted-new : {A : Type 0} (k : ℕ) (new old : A) → k ≡ 0 → new ≡ accepted k new old
-unfolding accepted
-accepted-new k new old z = rw z
 
 module _ (g : Given) {k : ℕ} (answer : k ≡ refusal (tickTests (g .counts) (g .table) (g .state) (g .switches) (length (g .next)) (length (g .lamps)))) where
   pub tick-refused : (k ≡ 0 → ⊥) → Ticked g k (g .next) (g .lamps)

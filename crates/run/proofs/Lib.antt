@@ -15,3 +15,6 @@ pub mod Following
 pub mod Merging
 pub mod Judging
 pub mod Refusing
+pub mod Calling
+pub mod Promising
+pub mod Determined

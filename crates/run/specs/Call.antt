@@ -37,6 +37,11 @@ unfoldable pub backTo : Outcome → ℕ
 backTo (closed n j) = j
 backTo full = 0
 
+-- 15 where the run is not closed
+unfoldable pub outcomeNumber : Outcome → ℕ
+outcomeNumber (closed n j) = 0
+outcomeNumber full = 15
+
 -- a chain that is made in a buffer: what it answers, and the cubes in front of what stood there
 pub record Chained (c : Counts) (words : List ℕ) (w : ℕ) (buffer : List ℕ) (r : Chain) (cubes : List ℕ) : Type 0 where
   pub closes : r .closed ≡ isClosed (run (circuitOf c words) w (roomIn c buffer))
@@ -120,10 +125,6 @@ module _ (g : Given) where
   unfoldable pub backIn : ℕ
   backIn = backTo outcomeIn
 
-  -- 15 where the run is not closed
-  unfoldable pub outcomeNumber : ℕ
-  outcomeNumber = elim outcomeIn [ closed n j ↦ 0 | full ↦ 15 ]
-
   -- the verdict, the settled record and s of a closed run
   unfoldable pub verdictFields : Cube
   verdictFields = verdict circuitIn (cubeAt circuitIn (g .w)) cubesIn
@@ -134,7 +135,7 @@ module _ (g : Given) where
 -- The contract of the run: what it answers, and every byte of the three buffers at exit.
 -- A refusal before 15 answers zeros and changes nothing; 15 answers n = room and stores that many cubes, and leaves verdict and settled record.
 pub record Runs (g : Given) (r : RunAnswer) (cubes verdict settled : List ℕ) : Type 0 where
-  pub answers : r .number ≡ accepted (refusedBy g) (outcomeNumber g) (refusedBy g)
+  pub answers : r .number ≡ accepted (refusedBy g) (outcomeNumber (outcomeIn g)) (refusedBy g)
   pub counts : r .cubes ≡ accepted (refusedBy g) (cubesIn g) 0
   pub goes-back : r .back ≡ accepted (refusedBy g) (backIn g) 0
   pub settles : r .settled ≡ accepted (r .number) (knownFields (settledFields g)) 0

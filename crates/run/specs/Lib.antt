@@ -2,4 +2,5 @@ pub mod Run
 pub mod Bytes
 pub mod Call
 pub mod Execution
+pub mod Promise
 pub mod Bench

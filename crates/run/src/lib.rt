@@ -12,7 +12,8 @@ ghost use Rattle.circuit.specs.Table.{circuitOf, Legal};
 ghost use Rattle.circuit.specs.Working.{Working};
 ghost use Rattle.run.specs.Run.{due as isDue, nextCube, lampsIn, verdict as verdictOf, settled as settledOf};
 ghost use Rattle.run.specs.Bytes.{cubeIn, startFields, keptByte, differingByte, heldAfter, widenedBytes, keptBytes, coversFrom, first, Advanced, Ready};
-ghost use Rattle.run.specs.Call.{Followable, Chained, Judgeable, Settleable, Judgement, runTests};
+ghost use Rattle.run.specs.Call.{Followable, Chained, Judgeable, Settleable, Judgement, runTests, Runs};
+ghost use Rattle.run.specs.Promise.{Promises};
 ghost use Rattle.circuit.specs.Refusal.{refusal};
 
 // "Interval w is 0 to 1,000"
@@ -368,4 +369,44 @@ pub struct RunAnswer {
     pub cubes: usize,
     pub back: usize,
     pub settled: usize,
+}
+
+// "Run. Input: counts, table, w, cube buffer, verdict and settled records." Nothing is relied on: any numbers and buffers may be handed in.
+pub fn run(
+    counts: Counts,
+    table: &[u16],
+    w: usize,
+    cubes: &mut [u8],
+    verdict: &mut [u8],
+    settled: &mut [u8],
+) -> RunAnswer
+    ensures { λ r. ⌜ Runs (record { counts = counts; table = now (table .entry); w = w; cubes = now (cubes .entry); verdict = now (verdict .entry); settled = now (settled .entry) }) r (now (cubes .exit)) (now (verdict .exit)) (now (settled .exit)) × Promises (record { counts = counts; table = now (table .entry); w = w; cubes = now (cubes .entry); verdict = now (verdict .entry); settled = now (settled .entry) }) r (now (cubes .exit)) (now (verdict .exit)) (now (settled .exit)) ⌝ }
+{
+    let number = run_refusal(counts, table, w, cubes.len(), verdict.len(), settled.len());
+    if number != 0 {
+        return RunAnswer {
+            number,
+            cubes: 0,
+            back: 0,
+            settled: 0,
+        };
+    }
+    let chain = make_chain(counts, table, w, cubes);
+    let n = chain.count;
+    let j = chain.back;
+    if !chain.closed {
+        return RunAnswer {
+            number: 15,
+            cubes: n,
+            back: 0,
+            settled: 0,
+        };
+    }
+    let s = judge(counts, table, cubes, n, j, verdict, settled);
+    RunAnswer {
+        number: 0,
+        cubes: n,
+        back: j,
+        settled: s,
+    }
 }

@@ -1,0 +1,174 @@
+-- The public run: what it answers and leaves where it is refused, where there is no room for a cube more, and where it closes. Assumes nothing.
+use mathlib.Core.Path.{_≡_, refl, sym, ap, ap₂, _∙_}
+use mathlib.Core.Bool.{true, false, true≢false, false≢true}
+use mathlib.Core.List.{List}
+use Prim.Native.Nat.{ℕ, zero, suc, _+_, _*_, _-_, _/_, _<_, _≤_}
+use native.Mathlib.Nat.{mul-le-mul-right, div-mul-le-self}
+use native.Mathlib.Omega.{arith}
+use lib.ListN.{length, drop}
+use Rattle.three.specs.Lists.{over}
+use Rattle.three.specs.Cube.{Cube, merged, knownFields}
+use Rattle.three.specs.Record.{bytesFor, pack, unpack}
+use Rattle.circuit.specs.declared.Counts.{Counts}
+use Rattle.circuit.specs.Circuit.{Circuit}
+use Rattle.circuit.specs.Refusal.{refusal}
+use Rattle.circuit.specs.Table.{circuitOf, Legal}
+use Rattle.circuit.proofs.Refusals.{refused-old, accepted-new}
+use Rattle.run.specs.declared.Chain.{Chain}
+use Rattle.run.specs.Run.{lampsIn, cubeAt, Outcome, closed, full, run, merge, verdict, settled}
+use Rattle.run.specs.Bytes.{cubeIn, packedCubes}
+use Rattle.run.specs.Call.{roomIn, storedCubes, isClosed, backTo, outcomeNumber, Chained, Judgeable, Judgement, runTests, Given, refusedBy, circuitIn, outcomeIn, cubesIn, backIn, verdictFields, settledFields, Runs}
+use Rattle.run.proofs.Steps.{found, Ran, stays, closes, ran}
+use Rattle.run.proofs.Storing.{records, records-sized, stored-cube, stored-sound}
+use Rattle.run.proofs.Chaining.{cubes-sized}
+use Rattle.run.proofs.Merging.{length-over}
+
+-- ---- outcomes
+
+pub closed-is : (room : ℕ) (o : Outcome) → isClosed o ≡ true → o ≡ closed (storedCubes room o) (backTo o)
+unfolding isClosed storedCubes backTo
+closed-is room (closed n j) e = refl
+closed-is room full e = absurd (false≢true e)
+
+full-is : (o : Outcome) → isClosed o ≡ false → (15 ≡ outcomeNumber o) × (0 ≡ backTo o)
+unfolding isClosed outcomeNumber backTo
+full-is (closed n j) e = absurd (true≢false e)
+full-is full e = (refl, refl)
+
+closed-number : (o : Outcome) → isClosed o ≡ true → 0 ≡ outcomeNumber o
+unfolding isClosed outcomeNumber
+closed-number (closed n j) e = refl
+closed-number full e = absurd (false≢true e)
+
+-- a closed run goes back to one of its cubes, and its cubes have room
+module _ (c : Circuit) (w : ℕ) where
+  ran-within : {room n j : ℕ} → Ran c w room (closed n j) → (j < n) × (n ≤ room)
+  ran-within (stays past) = (ran-within past .0, omega (arith, ran-within past .1))
+  ran-within (closes past l) = (found l .0, omega arith)
+
+  pub closed-within : (room : ℕ) → isClosed (run c w room) ≡ true → (backTo (run c w room) < storedCubes room (run c w room)) × (storedCubes room (run c w room) ≤ room)
+  unfolding isClosed storedCubes backTo
+  closed-within room e = go (run c w room) (ran c w room) e
+    where
+      go : (o : Outcome) → Ran c w room o → isClosed o ≡ true → (backTo o < storedCubes room o) × (storedCubes room o ≤ room)
+      go (closed n j) r h = ran-within r
+      go full r h = absurd (false≢true h)
+
+-- ---- verdict and settled record depend on the first n cubes alone
+
+merge-same : (f f′ : ℕ → Cube) (base more : ℕ) → ((k : ℕ) → k ≤ base + more → f k ≡ f′ k) → merge f base more ≡ merge f′ base more
+unfolding merge
+merge-same f f′ base zero same = same base (omega arith)
+merge-same f f′ base (suc more) same = ap₂ merged (merge-same f f′ base more (λ k h. same k (omega arith))) (same (base + suc more) (omega arith))
+
+module _ (f f′ : ℕ → Cube) (n : ℕ) (same : (k : ℕ) → k < n → f k ≡ f′ k) where
+  verdict-same : (c : Circuit) → 1 ≤ n → verdict c f n ≡ verdict c f′ n
+  unfolding verdict
+  verdict-same c some = merge-same _ _ 0 (n - 1) (λ k h. ap (lampsIn c) (same k (omega arith)))
+
+  settled-same : (j : ℕ) → j < n → settled f n j ≡ settled f′ n j
+  unfolding settled
+  settled-same j h = merge-same f f′ j (n - 1 - j) (λ k l. same k (omega arith))
+
+-- ---- the cubes in the buffer
+
+module _ (c : Counts) (words : List ℕ) (w : ℕ) (buffer : List ℕ) where
+  abbrev circuit : Circuit
+  circuit = circuitOf c words
+
+  module _ (n : ℕ) (cubes : List ℕ) (fills : cubes ≡ over (packedCubes circuit w n) buffer) where
+    pub cube-in : (k : ℕ) → k < n → cubeIn (c .latches) cubes k ≡ cubeAt circuit w k
+    unfolding cubeIn packedCubes records
+    cube-in k h =
+        ap (λ (l : List ℕ). unpack (c .latches) (drop (k * bytesFor (c .latches)) l)) fills
+        ∙ stored-cube (c .latches) (cubeAt circuit w) (cubes-sized c words w buffer) buffer n k h
+
+    cubes-judgeable : Legal c words → 1 ≤ n → n * bytesFor (c .latches) ≤ length buffer → Judgeable c words (bytesFor (c .latches)) n cubes
+    unfolding packedCubes records
+    cubes-judgeable legal some room = record {
+      legal = legal;
+      size = refl;
+      some = some;
+      fits = rw (fills, length-over (records (cubeAt circuit w) n) buffer (rw (records-sized (c .latches) (cubeAt circuit w) (cubes-sized c words w buffer) n) room)) room;
+      cube = λ k h. rw fills (stored-sound (c .latches) (cubeAt circuit w) (cubes-sized c words w buffer) buffer n k h room);
+    }
+
+  module _ (r : Chain) (cubes : List ℕ) (chain : Chained c words w buffer r cubes) (is-closed : r .closed ≡ true) where
+    within : (backTo (run circuit w (roomIn c buffer)) < storedCubes (roomIn c buffer) (run circuit w (roomIn c buffer))) × (storedCubes (roomIn c buffer) (run circuit w (roomIn c buffer)) ≤ roomIn c buffer)
+    within = closed-within circuit w (roomIn c buffer) (sym (chain .closes) ∙ is-closed)
+
+    pub back-below : r .back < r .count
+    back-below = rw (chain .goes-back, chain .counts) (within .0)
+
+    cubes-fit : r .count * bytesFor (c .latches) ≤ length buffer
+    unfolding roomIn
+    cubes-fit =
+        let below : r .count ≤ roomIn c buffer = rw (chain .counts) (within .1) in
+        omega (arith, mul-le-mul-right (bytesFor (c .latches)) below, div-mul-le-self (length buffer) (bytesFor (c .latches)))
+
+    pub judgeable : Legal c words → Judgeable c words (bytesFor (c .latches)) (r .count) cubes
+    judgeable legal = cubes-judgeable (r .count) cubes (chain .fills) legal (chain .some) cubes-fit
+
+-- ---- the call
+
+module _ (g : Given) where
+  pub run-refused : {k : ℕ} → k ≡ refusal (runTests (g .counts) (g .table) (g .w) (length (g .cubes)) (length (g .verdict)) (length (g .settled))) → (k ≡ 0 → ⊥) → Runs g (record { number = k; cubes = 0; back = 0; settled = 0 }) (g .cubes) (g .verdict) (g .settled)
+  unfolding refusedBy
+  run-refused {k} e h =
+      let not-passed : (refusedBy g ≡ 0 → ⊥) = λ z. h (e ∙ z) in
+      record {
+        answers = e ∙ refused-old (refusedBy g) _ _ not-passed;
+        counts = refused-old (refusedBy g) _ _ not-passed;
+        goes-back = refused-old (refusedBy g) _ _ not-passed;
+        settles = refused-old k _ _ h;
+        fills-cubes = refused-old (refusedBy g) _ _ not-passed;
+        fills-verdict = refused-old k _ _ h;
+        fills-settled = refused-old k _ _ h;
+      }
+
+  module _ (none : 0 ≡ refusal (runTests (g .counts) (g .table) (g .w) (length (g .cubes)) (length (g .verdict)) (length (g .settled)))) (r : Chain) (cubes : List ℕ) (chain : Chained (g .counts) (g .table) (g .w) (g .cubes) r cubes) where
+    ok : refusedBy g ≡ 0
+    unfolding refusedBy
+    ok = sym none
+
+    pub run-full : r .closed ≡ false → Runs g (record { number = 15; cubes = r .count; back = 0; settled = 0 }) cubes (g .verdict) (g .settled)
+    unfolding outcomeIn circuitIn cubesIn backIn
+    run-full h =
+        let is-full = full-is (outcomeIn g) (sym (chain .closes) ∙ h) in
+        let refused : (_≡_ {A = ℕ} 15 0 → ⊥) = λ z. omega arith in
+        record {
+          answers = is-full .0 ∙ accepted-new (refusedBy g) _ _ ok;
+          counts = chain .counts ∙ accepted-new (refusedBy g) _ _ ok;
+          goes-back = is-full .1 ∙ accepted-new (refusedBy g) _ _ ok;
+          settles = refused-old 15 _ _ refused;
+          fills-cubes = chain .fills ∙ ap (λ (n : ℕ). over (packedCubes (circuitIn g) (g .w) n) (g .cubes)) (chain .counts) ∙ accepted-new (refusedBy g) _ _ ok;
+          fills-verdict = refused-old 15 _ _ refused;
+          fills-settled = refused-old 15 _ _ refused;
+        }
+
+    module _ (h : r .closed ≡ true) (s : ℕ) (verdict′ settled′ : List ℕ) (judged : Judgement (g .counts) (g .table) cubes (r .count) (r .back) (g .verdict) (g .settled) s verdict′ settled′) where
+      same-cube : (k : ℕ) → k < r .count → cubeIn (g .counts .latches) cubes k ≡ cubeAt (circuitIn g) (g .w) k
+      unfolding circuitIn
+      same-cube = cube-in (g .counts) (g .table) (g .w) (g .cubes) (r .count) cubes (chain .fills)
+
+      verdict-is : verdict (circuitIn g) (cubeIn (g .counts .latches) cubes) (r .count) ≡ verdictFields g
+      unfolding verdictFields cubesIn circuitIn outcomeIn
+      verdict-is = verdict-same _ _ (r .count) same-cube (circuitIn g) (chain .some) ∙ ap (verdict (circuitIn g) (cubeAt (circuitIn g) (g .w))) (chain .counts)
+
+      settled-is : settled (cubeIn (g .counts .latches) cubes) (r .count) (r .back) ≡ settledFields g
+      unfolding settledFields cubesIn backIn circuitIn outcomeIn
+      settled-is =
+          settled-same _ _ (r .count) same-cube (r .back) (back-below (g .counts) (g .table) (g .w) (g .cubes) r cubes chain h)
+          ∙ ap₂ (settled (cubeAt (circuitIn g) (g .w))) (chain .counts) (chain .goes-back)
+
+      pub run-closed : Runs g (record { number = 0; cubes = r .count; back = r .back; settled = s }) cubes verdict′ settled′
+      unfolding outcomeIn circuitIn cubesIn backIn
+      run-closed = record {
+        answers = closed-number (outcomeIn g) (sym (chain .closes) ∙ h) ∙ accepted-new (refusedBy g) _ _ ok;
+        counts = chain .counts ∙ accepted-new (refusedBy g) _ _ ok;
+        goes-back = chain .goes-back ∙ accepted-new (refusedBy g) _ _ ok;
+        settles = judged .count ∙ ap knownFields settled-is ∙ accepted-new 0 _ _ refl;
+        fills-cubes = chain .fills ∙ ap (λ (n : ℕ). over (packedCubes (circuitIn g) (g .w) n) (g .cubes)) (chain .counts) ∙ accepted-new (refusedBy g) _ _ ok;
+        fills-verdict = judged .lamps ∙ ap (λ (v : Cube). over (pack v) (g .verdict)) verdict-is ∙ accepted-new 0 _ _ refl;
+        fills-settled = judged .latches ∙ ap (λ (v : Cube). over (pack v) (g .settled)) settled-is ∙ accepted-new 0 _ _ refl;
+      }
