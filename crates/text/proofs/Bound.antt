@@ -1,0 +1,115 @@
+-- A written text never exceeds 57,122 bytes (document 01, Text), and one has as many: each line has its longest numbers,
+-- and more or larger own literals make a body no shorter. Assumes nothing.
+use mathlib.Core.Path.{_≡_, refl}
+use mathlib.Core.List.{List, [], _∷_, _++_}
+use Prim.Native.Nat.{ℕ, zero, suc, _+_, _*_, _-_, _≤_}
+use native.Mathlib.Omega.{arith}
+use borrow.Author.Tests.{leb-true, ltb-true}
+use lib.ListN.{length, length-append, drop, getD}
+use Rattle.circuit.specs.declared.Counts.{Counts}
+use Rattle.circuit.specs.Refusal.{refusal, allHold, Passed}
+use Rattle.circuit.specs.Table.{variables, top, ceilingTests, Kind, input, latch, lamp, gate, several, kinds, width, rowTests, tableTests, Bounded}
+use Rattle.circuit.specs.Tick.{circuitTests}
+use Rattle.text.specs.Decimal.{digits, decimal}
+use Rattle.text.specs.Line.{lineText}
+use Rattle.text.specs.Text.{shown, numbers, headNumbers, writeBody, writeText}
+use Rattle.circuit.proofs.Refusals.{passed-append}
+use Rattle.text.proofs.Decimals.{length-below, length-monotone}
+use Rattle.text.proofs.Tables.{Taken, taken}
+
+-- the most bytes that a line takes
+room : Kind → ℕ
+room (input own) = length (decimal own) + 1
+room (latch own) = length (decimal own) + 8
+room lamp = 5
+room (gate own) = 3 * length (decimal own) + 3
+
+-- the same for several lines
+rooms : List Kind → ℕ
+rooms [] = 0
+rooms (k ∷ ks) = room k + rooms ks
+
+-- ---- lines that keep the rules stay within their room
+
+latch-room : (own next reset : ℕ) → next ≤ 8191 → reset ≤ 1 → length (lineText (own ∷ next ∷ shown reset)) ≤ length (decimal own) + 8
+unfolding lineText shown
+latch-room own next zero p q = simp length-append (omega (arith, length-below 3 next (omega arith)))
+latch-room own next (suc r) p q = simp length-append (omega (arith, length-below 3 next (omega arith), length-below 0 (suc r) (omega arith)))
+
+line-room : (most : ℕ) (k : Kind) (ws : List ℕ) → most ≤ 8191 → Passed (rowTests most k ws) → length (lineText (numbers k ws)) ≤ room k
+unfolding lineText numbers room rowTests
+line-room most (input own) ws m p = simp length-append (omega arith)
+line-room most (latch own) ws m p = latch-room own (getD ws 0 0) (getD ws 1 0) (omega (arith, leb-true)) (omega (arith, leb-true))
+line-room most lamp ws m p = simp length-append (omega (arith, length-below 3 (getD ws 0 0) (omega (arith, leb-true))))
+line-room most (gate own) ws m p =
+    simp length-append (omega (arith, length-monotone (getD ws 0 0) own (omega (arith, ltb-true)), length-monotone (getD ws 1 0) own (omega (arith, ltb-true))))
+
+body-room : (most : ℕ) (ks : List Kind) (ws : List ℕ) → most ≤ 8191 → Passed (tableTests most ks ws) → length (writeBody ks ws) ≤ rooms ks
+unfolding writeBody tableTests rooms
+body-room most [] ws m p = omega arith
+body-room most (k ∷ ks) ws m p =
+    let q = passed-append (rowTests most k ws) (tableTests most ks (drop (width k) ws)) p in
+    simp length-append (omega (arith, line-room most k ws m (q .0), body-room most ks (drop (width k) ws) m (q .1)))
+
+-- ---- the largest counts have the most room
+
+-- "I 256, L 512, O 64, A 3,327"
+unfoldable pub ceiling : Counts
+ceiling = record { inputs = 256; latches = 512; lamps = 64; gates = 3327 }
+
+rooms-ceiling : rooms (kinds ceiling) ≡ 57097
+unfolding rooms room kinds ceiling several decimal digits
+rooms-ceiling = refl
+
+rooms-several : (kind : ℕ → Kind) → ((a b : ℕ) → a ≤ b → room (kind a) ≤ room (kind b))
+    → (a b n m : ℕ) (ks js : List Kind) → a ≤ b → n ≤ m → rooms ks ≤ rooms js → rooms (several kind a n ks) ≤ rooms (several kind b m js)
+unfolding several rooms
+rooms-several kind mono a b zero zero ks js p q h = h
+rooms-several kind mono a b zero (suc m) ks js p q h = omega (arith, rooms-several kind mono a (b + 2) zero m ks js (omega arith) (omega arith) h)
+rooms-several kind mono a b (suc n) zero ks js p q h = absurd (omega arith)
+rooms-several kind mono a b (suc n) (suc m) ks js p q h = omega (arith, mono a b p, rooms-several kind mono (a + 2) (b + 2) n m ks js (omega arith) (omega arith) h)
+
+rooms-kinds : (c : Counts) → Bounded c → rooms (kinds c) ≤ rooms (kinds ceiling)
+unfolding kinds room ceiling
+rooms-kinds c b =
+    rooms-several input (λ x y h. omega (arith, length-monotone x y h)) _ _ (c .inputs) 256 _ _ (omega arith) (b .inputs)
+    (rooms-several latch (λ x y h. omega (arith, length-monotone x y h)) _ _ (c .latches) 512 _ _ (omega arith) (b .latches)
+    (rooms-several (λ own. lamp) (λ x y h. omega arith) _ _ (c .lamps) 64 _ _ (omega arith) (b .lamps)
+    (rooms-several gate (λ x y h. omega (arith, length-monotone x y h)) _ _ (c .gates) 3327 _ _ (omega arith) (b .gates) (omega arith))))
+
+pub text-bound : (c : Counts) (table : List ℕ) → 0 ≡ refusal (circuitTests c table) → length (writeText c table) ≤ 57122
+unfolding writeText headNumbers lineText
+text-bound c table e =
+    let k : Taken c table = taken c table e in
+    let b : Bounded c = k .bounded in
+    simp length-append (omega (
+      arith,
+      length-below 3 (variables c) (omega arith),
+      length-below 2 (c .inputs) (omega arith),
+      length-below 2 (c .latches) (omega arith),
+      length-below 1 (c .lamps) (omega arith),
+      length-below 3 (c .gates) (omega arith),
+      body-room (top c) (kinds c) table (omega arith) (k .rules),
+      rooms-kinds c b,
+      rooms-ceiling,
+    ))
+
+-- ---- the bound is reached
+
+-- the longest words that a line can have
+longest : Kind → List ℕ
+longest (input own) = []
+longest (latch own) = 8191 ∷ 1 ∷ []
+longest lamp = 8191 ∷ []
+longest (gate own) = (own - 1) ∷ (own - 1) ∷ []
+
+longestWords : List Kind → List ℕ
+longestWords [] = []
+longestWords (k ∷ ks) = longest k ++ longestWords ks
+
+pub longestTable : List ℕ
+longestTable = longestWords (kinds ceiling)
+
+pub bound-reached : (0 ≡ refusal (circuitTests ceiling longestTable)) × (length (writeText ceiling longestTable) ≡ 57122)
+unfolding refusal circuitTests ceilingTests allHold tableTests rowTests width ceiling kinds several longest longestWords longestTable writeText headNumbers writeBody numbers shown lineText decimal digits
+bound-reached = (refl, refl)

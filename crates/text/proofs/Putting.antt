@@ -1,0 +1,42 @@
+-- Laws of bytes put into a buffer: one byte, one list behind another, and a whole text from the front. Assumes nothing.
+use mathlib.Core.Path.{_≡_, refl, sym, ap, _∙_}
+use mathlib.Core.List.{List, [], _∷_, _++_}
+use Prim.Native.Nat.{ℕ, suc, _+_, _/_, _%_, _≤_, _<_}
+use native.Mathlib.Nat.{add-zero, zero-add}
+use native.Mathlib.Omega.{arith}
+use lib.ListN.{length, set, length-set, length-append}
+use lib.Seq.{sets, sets-eq}
+use Rattle.three.specs.Lists.{over}
+use Rattle.text.specs.Decimal.{decimal}
+use Rattle.text.specs.Written.{Put}
+use Rattle.text.proofs.Decimals.{decimal-small, decimal-more}
+
+pub sets-append : (l : List ℕ) (i : ℕ) (s t : List ℕ) → sets l i (s ++ t) ≡ sets (sets l i s) (i + length s) t
+sets-append l i [] t = rw add-zero
+sets-append l i (a ∷ s) t =
+    let e : suc i + length s ≡ i + suc (length s) = omega arith in
+    sets-append (set l i a) (suc i) s t ∙ ap (λ (k : ℕ). sets (sets (set l i a) (suc i) s) k t) e
+
+pub put-one : (d : List ℕ) (at b : ℕ) → Put d at (b ∷ []) (set d at b) (at + 1)
+put-one d at b = record { same = refl; after = refl; long = length-set d at b }
+
+-- one list, and behind it another
+pub put-then : {d e f : List ℕ} {p q r : ℕ} {s t : List ℕ} → Put d p s e q → Put e q t f r → Put d p (s ++ t) f r
+put-then {d} {e} {f} {p} {q} {r} {s} {t} a b = record {
+  same = b .same ∙ rw (a .same, a .after) (sym (sets-append d p s t));
+  after = rw length-append (omega (arith, a .after, b .after));
+  long = b .long ∙ a .long;
+}
+
+-- a list that is put from the front
+pub put-over : {d s e : List ℕ} {q : ℕ} → Put d 0 s e q → length s ≤ length d → e ≡ over s d
+unfolding over
+put-over {d} {s} p h = p .same ∙ sets-eq s d 0 (rw zero-add h) ∙ rw zero-add
+
+-- ---- a number, from its last digit
+
+pub put-small : {d e : List ℕ} {p q b : ℕ} (n : ℕ) → n < 10 → b ≡ 48 + n → Put d p (b ∷ []) e q → Put d p (decimal n) e q
+put-small n h b= a = rw (decimal-small n h, ← b=) a
+
+pub put-more : {d e f : List ℕ} {p q r b : ℕ} (n : ℕ) → 10 ≤ n → b ≡ 48 + n % 10 → Put d p (decimal (n / 10)) e q → Put e q (b ∷ []) f r → Put d p (decimal n) f r
+put-more n h b= a z = rw (decimal-more n h, ← b=) (put-then a z)

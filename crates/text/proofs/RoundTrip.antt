@@ -1,0 +1,90 @@
+-- What is written is read back: a written text describes its circuit, so a call reads what a call wrote. Assumes nothing.
+use mathlib.Core.Path.{_≡_, refl, ap}
+use mathlib.Core.List.{List, [], _∷_, _++_}
+use Prim.Native.Nat.{ℕ, zero, suc, _≤_}
+use native.Mathlib.Omega.{arith}
+use lib.ListN.{length, take, drop, length-drop}
+use lib.Seq.{take-add, drop-at, length-take-le, take-append-seam}
+use Rattle.three.specs.Lists.{over}
+use Rattle.circuit.specs.declared.Counts.{Counts}
+use Rattle.circuit.specs.Refusal.{Test, refusal, accepted as afterwards}
+use Rattle.circuit.specs.Table.{top, tableLength, Kind, input, latch, lamp, gate, kinds, width, rowTests, tableTests}
+use Rattle.circuit.specs.Tick.{circuitTests}
+use Rattle.text.specs.Outcome.{accepted}
+use Rattle.text.specs.Text.{shown, numbers, writeBody, writeText, Content, readText}
+use Rattle.text.specs.Calls.{Reading, Writing}
+use Rattle.text.proofs.Tables.{size, size-kinds, Taken, taken, taken-refusal}
+use Rattle.text.proofs.Grammar.{Spelled, inputLine, latchLine, latchPlain, lampLine, gateLine, Says, stop, line, Describes, described}
+use Rattle.text.proofs.Bound.{text-bound}
+use Rattle.text.proofs.Answers.{read-fits, reading-accepted, write-legal}
+
+-- A line's words, in front of others, spell what is written and keep the rules that they kept
+record Row (k : Kind) (ws rest : List ℕ) : Type 0 where
+  spelled : Spelled rest k (take (width k) ws ++ rest) (numbers k ws)
+  rules : (most : ℕ) → rowTests most k (take (width k) ws ++ rest) ≡ rowTests most k ws
+
+row : (k : Kind) (ws rest : List ℕ) → width k ≤ length ws → Row k ws rest
+unfolding numbers shown width rowTests
+row (input own) ws rest w = record { spelled = inputLine; rules = λ most. refl }
+row (latch own) [] rest w = absurd (omega arith)
+row (latch own) (a ∷ []) rest w = absurd (omega arith)
+row (latch own) (a ∷ zero ∷ ws) rest w = record { spelled = latchPlain; rules = λ most. refl }
+row (latch own) (a ∷ suc r ∷ ws) rest w = record { spelled = latchLine; rules = λ most. refl }
+row lamp [] rest w = absurd (omega arith)
+row lamp (a ∷ ws) rest w = record { spelled = lampLine; rules = λ most. refl }
+row (gate own) [] rest w = absurd (omega arith)
+row (gate own) (a ∷ []) rest w = absurd (omega arith)
+row (gate own) (a ∷ b ∷ ws) rest w = record { spelled = gateLine; rules = λ most. refl }
+
+written-says : (ks : List Kind) (ws : List ℕ) → size ks ≤ length ws → Says ks (take (size ks) ws) (writeBody ks ws)
+unfolding writeBody size
+written-says [] ws h = stop
+written-says (k ∷ ks) ws h =
+    rw take-add (line (row k ws (take (size ks) (drop (width k) ws)) (omega arith) .spelled) (written-says ks (drop (width k) ws) (simp length-drop (omega arith))))
+
+-- words beyond the lines' are ignored
+take-rules : (most : ℕ) (ks : List Kind) (ws : List ℕ) → size ks ≤ length ws → tableTests most ks (take (size ks) ws) ≡ tableTests most ks ws
+unfolding tableTests size
+take-rules most [] ws h = refl
+take-rules most (k ∷ ks) ws h =
+    let rest : List ℕ = take (size ks) (drop (width k) ws) in
+    rw (take-add, row k ws rest (omega arith) .rules most, drop-at (take (width k) ws) rest (width k) (length-take-le (width k) ws (omega arith)))
+    (ap (λ (ts : List Test). rowTests most k ws ++ ts) (take-rules most ks (drop (width k) ws) (simp length-drop (omega arith))))
+
+-- nor do they matter to 3, 10 and 11
+taken-words : (c : Counts) (table : List ℕ) → Taken c table → Taken c (take (tableLength c) table)
+taken-words c table k = record {
+  bounded = k .bounded;
+  long = omega (arith, length-take-le (tableLength c) table (k .long));
+  rules = rw (← size-kinds c, take-rules (top c) (kinds c) table (omega (arith, size-kinds c))) (k .rules);
+}
+
+-- what the writer is given: the counts, and the words that belong to them
+abbrev pub given : Counts → List ℕ → Content
+given c table = record { counts = c; words = take (tableLength c) table }
+
+module _ (c : Counts) (table : List ℕ) (legal : 0 ≡ refusal (circuitTests c table)) where
+  pub written-describes : Describes (writeText c table) (given c table)
+  unfolding writeText
+  written-describes =
+      let k : Taken c table = taken c table legal in
+      record {
+        short = omega (arith, text-bound c table legal);
+        legal = taken-refusal (taken-words c table k);
+        whole = length-take-le (tableLength c) table (k .long);
+        body = writeBody (kinds c) table;
+        text = refl;
+        says = rw (← size-kinds c) (written-says (kinds c) table (omega (arith, size-kinds c)));
+      }
+
+  pub round-trip : readText (writeText c table) ≡ accepted (given c table)
+  round-trip = described written-describes
+
+-- the reader, given the bytes that the writer wrote and a table that is long enough
+pub read-back : {c : Counts} {table buffer : List ℕ} {bytes : ℕ} {buffer′ : List ℕ} → Writing c table buffer 0 bytes buffer′
+    → (lent : List ℕ) → tableLength c ≤ length lent → Reading (take bytes buffer′) lent 0 c (over (take (tableLength c) table) lent)
+unfolding afterwards over
+read-back {c} {table} {buffer} w lent h =
+    let text : List ℕ = writeText c table in
+    let e = round-trip c table (write-legal c table buffer (w .answers)) in
+    rw (w .returns, w .fills, take-append-seam text (drop (length text) buffer)) (reading-accepted text lent (read-fits text lent e h))

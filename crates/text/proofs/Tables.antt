@@ -1,0 +1,113 @@
+-- Laws of a circuit's lines and words: how many there are, their bounds, and what 3, 10 and 11 say of them. Assumes nothing.
+use mathlib.Core.Path.{_≡_, refl}
+use mathlib.Core.List.{List, [], _∷_}
+use Prim.Native.Nat.{ℕ, zero, suc, _+_, _*_, _-_, _≤_, _<_}
+use native.Mathlib.Nat.{add-zero, sub-zero, zero-mul, suc-mul}
+use native.Mathlib.Omega.{arith}
+use borrow.Author.Tests.{leb-true, le-leb}
+use lib.ListN.{length}
+use Rattle.circuit.specs.declared.Counts.{Counts}
+use Rattle.circuit.specs.Refusal.{refusal, Passed}
+use Rattle.circuit.specs.Table.{top, ceilingTests, tableLength, Kind, input, latch, lamp, gate, several, kinds, width, tableTests, Bounded}
+use Rattle.circuit.specs.Tick.{circuitTests}
+use Rattle.circuit.proofs.Refusals.{passes, circuit-passes}
+use Rattle.text.proofs.Outcomes.{hold-passed, passed-hold}
+
+-- ---- how many words
+
+-- so many words of the table belong to these lines
+unfoldable pub size : List Kind → ℕ
+size [] = 0
+size (k ∷ ks) = width k + size ks
+
+size-several : (kind : ℕ → Kind) (w : ℕ) → ((own : ℕ) → width (kind own) ≡ w) → (own n : ℕ) (ks : List Kind) → size (several kind own n ks) ≡ n * w + size ks
+unfolding several size
+size-several kind w wide own zero ks = rw zero-mul (omega arith)
+size-several kind w wide own (suc n) ks = omega (arith, wide own, size-several kind w wide (own + 2) n ks, suc-mul n w)
+
+pub size-kinds : (c : Counts) → size (kinds c) ≡ tableLength c
+unfolding kinds width size
+size-kinds c =
+    let wide = size-several in
+    simp (wide input 0 (λ own. refl), wide latch 2 (λ own. refl), wide (λ own. lamp) 1 (λ own. refl), wide gate 2 (λ own. refl)) (omega arith)
+
+-- ---- lines of one kind from number i on, as a loop goes through them
+
+module _ (kind : ℕ → Kind) (own n : ℕ) (ks : List Kind) where
+  abbrev pub linesFrom : ℕ → List Kind
+  linesFrom i = several kind (own + 2 * i) (n - i) ks
+
+  pub lines-first : several kind own n ks ≡ linesFrom 0
+  lines-first = rw (sub-zero, add-zero)
+
+  pub lines-next : (i : ℕ) → i < n → linesFrom i ≡ kind (own + 2 * i) ∷ linesFrom (i + 1)
+  unfolding several
+  lines-next i h =
+      let p : n - i ≡ suc (n - (i + 1)) = omega arith in
+      let q : own + 2 * i + 2 ≡ own + 2 * (i + 1) = omega arith in
+      rw (p, q)
+
+  pub lines-last : (i : ℕ) → n ≤ i → linesFrom i ≡ ks
+  unfolding several
+  lines-last i h = let p : n - i ≡ 0 = omega arith in rw p
+
+-- ---- own literals
+
+-- the own literal due, 0 for a lamp
+unfoldable pub due : Kind → ℕ
+due (input own) = own
+due (latch own) = own
+due lamp = 0
+due (gate own) = own
+
+-- each is at most the largest literal
+abbrev pub Owned : ℕ → List Kind → Type 0
+Owned most [] = Unit {0}
+Owned most (k ∷ ks) = (due k ≤ most) × Owned most ks
+
+owned-several : (most last : ℕ) (kind : ℕ → Kind) → ((own : ℕ) → own ≤ last → due (kind own) ≤ most)
+    → (own n : ℕ) (ks : List Kind) → own + 2 * n ≤ last + 2 → Owned most ks → Owned most (several kind own n ks)
+unfolding several
+owned-several most last kind d own zero ks h o = o
+owned-several most last kind d own (suc n) ks h o = (d own (omega arith), owned-several most last kind d (own + 2) n ks (omega arith) o)
+
+pub owned-kinds : (c : Counts) → Owned (top c) (kinds c)
+unfolding kinds due
+owned-kinds c =
+    owned-several (top c) (top c) input (λ own h. h) _ (c .inputs) _ (omega arith)
+    (owned-several (top c) (top c) latch (λ own h. h) _ (c .latches) _ (omega arith)
+    (owned-several (top c) (2 * c .lamps) (λ own. lamp) (λ own h. omega arith) _ (c .lamps) _ (omega arith)
+    (owned-several (top c) (top c) gate (λ own h. h) _ (c .gates) _ (omega arith) tt)))
+
+-- ---- what 3, 10 and 11 refuse
+
+pub passed-bounded : (c : Counts) → Passed (ceilingTests c) → Bounded c
+unfolding ceilingTests
+passed-bounded c p = omega (arith, leb-true)
+
+pub bounded-passed : (c : Counts) → Bounded c → Passed (ceilingTests c)
+unfolding ceilingTests
+bounded-passed c b = (le-leb _ _ (b .inputs), (le-leb _ _ (b .latches), (le-leb _ _ (b .lamps), (le-leb _ _ (b .gates), tt))))
+
+-- A circuit that they do not refuse
+pub record Taken (c : Counts) (table : List ℕ) : Type 0 where
+  pub bounded : Bounded c
+  pub long : tableLength c ≤ length table
+  pub rules : Passed (tableTests (top c) (kinds c) table)
+
+pub circuit-passed : (c : Counts) (table : List ℕ) → 0 ≡ refusal (circuitTests c table) → Passed (circuitTests c table)
+unfolding circuitTests ceilingTests
+circuit-passed c table e = passes (circuitTests c table) (omega arith) e
+
+pub taken : (c : Counts) (table : List ℕ) → 0 ≡ refusal (circuitTests c table) → Taken c table
+unfolding circuitTests ceilingTests
+taken c table e =
+    let p = circuit-passed c table e in
+    record {
+      bounded = omega (arith, leb-true);
+      long = omega (arith, leb-true);
+      rules = hold-passed (tableTests (top c) (kinds c) table) (p .1 .1 .1 .1 .1 .0);
+    }
+
+pub taken-refusal : {c : Counts} {table : List ℕ} → Taken c table → 0 ≡ refusal (circuitTests c table)
+taken-refusal {c} {table} t = circuit-passes c table (t .bounded) (t .long) (passed-hold (tableTests (top c) (kinds c) table) (t .rules))

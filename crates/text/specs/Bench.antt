@@ -1,0 +1,61 @@
+-- The reading cases of document 01, Bench circuits, as one table. Assumes nothing.
+use mathlib.Core.Path.{_≡_, refl}
+use mathlib.Core.Bool.{cond}
+use mathlib.Core.List.{List, [], _∷_, map}
+use Prim.Native.Nat.{ℕ}
+use Prim.Native.String.{String}
+use Prim.Native.Char.{code}
+use lib.Dec.{eqb}
+use Rattle.circuit.specs.Refusal.{refusal}
+use Rattle.circuit.specs.Table.{ceilingTests, several, kinds, rowTests}
+use Rattle.text.specs.Decimal.{isDigit, mayGrow, readOn, readNumber}
+use Rattle.text.specs.Line.{strip, prepend, splitLine}
+use Rattle.text.specs.Outcome.{Outcome, accepted, refused, after, tested, onward}
+use Rattle.text.specs.Text.{fits, owns, words, lineTests, ends, readBody, header, countsOf, headerTests, Content, readText}
+
+-- the document's way to show a text: `/` for byte 10
+unfoldable pub bytes : String → List ℕ
+bytes String.[] = []
+bytes (String._∷_ c s) = cond (eqb (code c) 47) 10 (code c) ∷ bytes s
+
+-- A text, and the outcome of reading it
+pub record Case : Type 0 where
+  pub text : String
+  pub outcome : Outcome Content
+
+-- `t is n`: t is refused with n
+infix 68 _is_
+abbrev pub _is_ : String → ℕ → Case
+t is n = record { text = t; outcome = refused n }
+
+-- `says t i l o a ws`: t is read as these counts and words
+abbrev pub says : String → ℕ → ℕ → ℕ → ℕ → List ℕ → Case
+says t i l o a ws = record { text = t; outcome = accepted (record { counts = record { inputs = i; latches = l; lamps = o; gates = a }; words = ws }) }
+
+-- readText, all of it open to computation
+unfoldable pub outcomeOf : List ℕ → Outcome Content
+unfolding refusal ceilingTests several kinds rowTests isDigit mayGrow readOn readNumber strip prepend splitLine after tested onward fits owns words lineTests ends readBody header countsOf headerTests readText
+outcomeOf t = readText t
+
+-- each text has its outcome
+abbrev pub AsSaid : List Case → Type 0
+AsSaid cs = map (λ (c : Case). outcomeOf (bytes (c .text))) cs ≡ map (λ (c : Case). c .outcome) cs
+
+-- T, H, K, S, E and C, and the two starred refusals; then the two cases without a star
+pub cases : List Case
+cases =
+    says "aag 1 0 1 1 0/2 3/2/" 0 1 1 0 (3 ∷ 0 ∷ 2 ∷ [])
+    ∷ says "aag 3 1 1 1 1/2/4 7/4/6 3 5/" 1 1 1 1 (7 ∷ 0 ∷ 4 ∷ 3 ∷ 5 ∷ [])
+    ∷ says "aag 2 1 0 1 1/2/4/4 2 3/" 1 0 1 1 (4 ∷ 2 ∷ 3 ∷ [])
+    ∷ says "aag 3 0 2 1 1/2 4/4 2 1/6/6 4 2/" 0 2 1 1 (4 ∷ 0 ∷ 2 ∷ 1 ∷ 6 ∷ 4 ∷ 2 ∷ [])
+    ∷ says "aag 1 0 1 1 0/2 1/2/" 0 1 1 0 (1 ∷ 0 ∷ 2 ∷ [])
+    ∷ says "aag 5 0 2 1 3/2 3/4 11/10/6 4 3/8 5 2/10 9 7/" 0 2 1 3 (3 ∷ 0 ∷ 11 ∷ 0 ∷ 10 ∷ 4 ∷ 3 ∷ 5 ∷ 2 ∷ 9 ∷ 7 ∷ [])
+    ∷ "aag 1 0 1 0 0/2 2 2/" is 8
+    ∷ "aag 2 1 0 0 1/2/4 4 2/" is 7
+    ∷ says "aag 0 0 0 0 0/" 0 0 0 0 []
+    ∷ "aag 2 1 0 0 1/2/4 6 2/" is 6
+    ∷ []
+
+pub bench : AsSaid cases
+unfolding outcomeOf bytes cases
+bench = refl

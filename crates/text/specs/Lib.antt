@@ -1,0 +1,10 @@
+pub mod Part
+pub mod Decimal
+pub mod Line
+pub mod Outcome
+pub mod Text
+pub mod Calls
+pub mod Bench
+pub mod Edges
+pub mod Reader
+pub mod Written

@@ -1,0 +1,45 @@
+-- Lines (document 01, Text): one or more numbers, one space between, ended by byte 10. Assumes nothing.
+use mathlib.Core.Bool.{true, false}
+use mathlib.Core.List.{List, [], _∷_, _++_}
+use Prim.Native.Nat.{ℕ, zero, suc}
+use lib.Dec.{eqb}
+use Rattle.text.specs.Part.{Part, got, ill}
+use Rattle.text.specs.Decimal.{decimal, readNumber}
+
+-- a line's end
+abbrev pub newline : List ℕ
+newline = 10 ∷ []
+
+-- what stands between two numbers
+abbrev pub space : List ℕ
+space = 32 ∷ []
+
+-- the line of these numbers
+unfoldable pub lineText : List ℕ → List ℕ
+lineText [] = []
+lineText (n ∷ []) = decimal n ++ newline
+lineText (n ∷ m ∷ ns) = decimal n ++ space ++ lineText (m ∷ ns)
+
+-- takes these bytes off the front
+unfoldable pub strip : List ℕ → List ℕ → Part (Unit {0})
+strip [] t = got tt t
+strip (b ∷ bs) [] = ill
+strip (b ∷ bs) (d ∷ t) = elim (eqb b d) [ true ↦ strip bs t | false ↦ ill ]
+
+-- n in front of the numbers read
+unfoldable pub prepend : ℕ → Part (List ℕ) → Part (List ℕ)
+prepend n (got ns t) = got (n ∷ ns) t
+prepend n ill = ill
+
+-- the numbers of a line that has at most `most` of them
+unfoldable pub splitLine : ℕ → List ℕ → Part (List ℕ)
+splitLine zero t = ill
+splitLine (suc most) t = elim (readNumber t) [
+  | ill ↦ ill
+  | got n r ↦
+      elim (strip newline r) [
+        | got u rest ↦ got (n ∷ []) rest
+        | ill ↦
+            elim (strip space r) [ got u rest ↦ prepend n (splitLine most rest) | ill ↦ ill ]
+      ]
+]

@@ -1,0 +1,118 @@
+-- The text of a circuit (document 01, Text): how it is written, and how it is read or refused with 1 to 9.
+-- Decided here: a last `c` without byte 10 is no line, and so is 9. Assumes nothing.
+use mathlib.Core.Bool.{Bool, true, false, _&&_}
+use mathlib.Core.List.{List, [], _∷_, _++_}
+use Prim.Native.Nat.{ℕ, zero, suc}
+use lib.Dec.{leb, eqb}
+use lib.ListN.{length, getD, drop}
+use Rattle.circuit.specs.declared.Counts.{Counts}
+use Rattle.circuit.specs.Refusal.{Test, _or_}
+use Rattle.circuit.specs.Table.{variables, top, ceilingTests, Kind, input, latch, lamp, gate, kinds, width, rowTests}
+use Rattle.text.specs.Part.{Part, got, ill}
+use Rattle.text.specs.Line.{newline, lineText, strip, splitLine}
+use Rattle.text.specs.Outcome.{Outcome, accepted, refused, tested, onward}
+
+-- `aag` and a space
+abbrev pub magic : List ℕ
+magic = 97 ∷ 97 ∷ 103 ∷ 32 ∷ []
+
+-- M I L O A
+unfoldable pub headNumbers : Counts → List ℕ
+headNumbers c = variables c ∷ c .inputs ∷ c .latches ∷ c .lamps ∷ c .gates ∷ []
+
+-- ---- writing
+
+-- the reset is given only where it is not 0
+unfoldable pub shown : ℕ → List ℕ
+shown zero = []
+shown (suc r) = suc r ∷ []
+
+-- the numbers of a line whose words open ws
+unfoldable pub numbers : Kind → List ℕ → List ℕ
+numbers (input own) ws = own ∷ []
+numbers (latch own) ws = own ∷ getD ws 0 0 ∷ shown (getD ws 1 0)
+numbers lamp ws = getD ws 0 0 ∷ []
+numbers (gate own) ws = own ∷ getD ws 0 0 ∷ getD ws 1 0 ∷ []
+
+-- a line for each kind, in order
+unfoldable pub writeBody : List Kind → List ℕ → List ℕ
+writeBody [] ws = []
+writeBody (k ∷ ks) ws = lineText (numbers k ws) ++ writeBody ks (drop (width k) ws)
+
+-- the first line, then the body; the table's words beyond its length are ignored
+unfoldable pub writeText : Counts → List ℕ → List ℕ
+writeText c table = magic ++ (lineText (headNumbers c) ++ writeBody (kinds c) table)
+
+-- ---- reading
+
+-- how many numbers a line has
+unfoldable pub fits : Kind → ℕ → Bool
+fits (input own) n = eqb n 1
+fits (latch own) n = leb 2 n && leb n 3
+fits lamp n = eqb n 1
+fits (gate own) n = eqb n 3
+
+-- the own literal is the one due
+unfoldable pub owns : Kind → List ℕ → Bool
+owns (input own) ns = eqb (getD ns 0 0) own
+owns (latch own) ns = eqb (getD ns 0 0) own
+owns lamp ns = true
+owns (gate own) ns = eqb (getD ns 0 0) own
+
+-- the words that a line gives; an absent reset is 0
+unfoldable pub words : Kind → List ℕ → List ℕ
+words (input own) ns = []
+words (latch own) ns = getD ns 1 0 ∷ getD ns 2 0 ∷ []
+words lamp ns = getD ns 0 0 ∷ []
+words (gate own) ns = getD ns 1 0 ∷ getD ns 2 0 ∷ []
+
+-- 4, 5, 6, then 7 or 8 for a line's numbers; `most` is the largest literal
+unfoldable pub lineTests : ℕ → Kind → List ℕ → List Test
+lineTests most k ns = fits k (length ns) or 4 ∷ owns k ns or 5 ∷ rowTests most k (words k ns)
+
+-- the line that is just `c`
+abbrev pub comment : List ℕ
+comment = 99 ∷ newline
+
+-- the end of the text, or that line, after which everything is skipped
+unfoldable pub ends : List ℕ → Bool
+ends [] = true
+ends (b ∷ t) = elim (strip comment (b ∷ t)) [ got u rest ↦ true | ill ↦ false ]
+
+-- the words of the lines, line by line; then 9
+unfoldable pub readBody : ℕ → List Kind → List ℕ → Outcome (List ℕ)
+readBody most [] t = tested (ends t or 9 ∷ []) (accepted [])
+readBody most (k ∷ ks) t = elim (splitLine 3 t) [
+  | ill ↦ refused 4
+  | got ns rest ↦
+      tested (lineTests most k ns) (onward (λ ws. words k ns ++ ws) (readBody most ks rest))
+]
+
+-- the numbers of the first line
+unfoldable pub header : List ℕ → Part (List ℕ)
+header t = elim (strip magic t) [ got u r ↦ splitLine 5 r | ill ↦ ill ]
+
+-- I, L, O and A among them
+unfoldable pub countsOf : List ℕ → Counts
+countsOf ns = record { inputs = getD ns 1 0; latches = getD ns 2 0; lamps = getD ns 3 0; gates = getD ns 4 0 }
+
+-- 2, then 3 for the first line's numbers
+unfoldable pub headerTests : List ℕ → List Test
+headerTests ns = eqb (length ns) 5 or 2 ∷ eqb (getD ns 0 0) (variables (countsOf ns)) or 3 ∷ ceilingTests (countsOf ns)
+
+-- What a text says: a circuit's counts, and its words
+pub record Content : Type 0 where
+  pub counts : Counts
+  pub words : List ℕ
+
+-- the same from the first line's numbers
+abbrev pub content : List ℕ → List ℕ → Content
+content ns ws = record { counts = countsOf ns; words = ws }
+
+-- 1, 2, 3, then line by line, 9
+unfoldable pub readText : List ℕ → Outcome Content
+readText t = tested (leb (length t) 60000 or 1 ∷ []) (elim (header t) [
+  | ill ↦ refused 2
+  | got ns rest ↦
+      tested (headerTests ns) (onward (content ns) (readBody (top (countsOf ns)) (kinds (countsOf ns)) rest))
+])

@@ -1,0 +1,834 @@
+// The text of a circuit (document 01, Text).
+use circuit::Counts;
+ghost use mathlib.Core.Path.{_≡_};
+ghost use Prim.Native.Nat.{ℕ, _≤_, _<_, _+_};
+ghost use lib.ListN.{length, getD};
+ghost use mathlib.Core.List.{[], _∷_, _++_};
+ghost use Rattle.three.specs.Lists.{over};
+ghost use Rattle.circuit.specs.Refusal.{refusal};
+ghost use Rattle.circuit.specs.Table.{top, input, latch, lamp, gate, kinds, Bounded, width};
+ghost use Rattle.text.specs.Decimal.{mayGrow, readNumber, decimal};
+ghost use Rattle.text.specs.Line.{splitLine, lineText};
+ghost use Rattle.text.specs.Text.{words, lineTests, ends, readBody, header as firstLine, countsOf, headerTests, magic, headNumbers, writeText};
+ghost use Rattle.text.specs.Calls.{zeros, Reading, Writing};
+ghost use Rattle.text.specs.Reader.{from, leading, NumberFound, FoundInLine, Shape, numbersOf, LineFound, opened, kindOf, lineCount, verdict, answer, LineJudged, TextJudged, pairOf, WordsFit, WordsFilled, bodyWords, Fillable};
+ghost use Rattle.text.specs.Written.{Put, coded, lineNumbers, countNumbers, Small, Shows, block, Lines, Ready};
+
+// "The file opens with the four bytes `aag` and a space"
+const MAGIC: [u8; 4] = *b"aag ";
+
+// ---- the reader
+
+// A number at a position, and the position behind it.
+enum ReadNumber {
+    Value(usize, usize),
+    NoNumber,
+}
+
+// The same with the byte behind it, a line end or a space.
+enum InLine {
+    Last(usize, usize),
+    More(usize, usize),
+    NotInLine,
+}
+
+// The numbers of a line, none where it is ill-formed, and the position behind it. No line has more than the first, with five.
+struct ReadLine {
+    count: usize,
+    numbers: [usize; 5],
+    next: usize,
+}
+
+// The line due in a place, with its own literal.
+enum Row {
+    Input(usize),
+    Latch(usize),
+    Lamp,
+    Gate(usize),
+}
+
+// The digit at a position, and 10 where there is none.
+fn digit_at(text: &[u8], at: usize) -> usize
+    ensures { λ r. ⌜ r ≡ leading (from (now (text .entry)) at) ⌝ }
+{
+    if at >= text.len() {
+        return 10;
+    }
+    let b = text[at];
+    if b < b'0' {
+        return 10;
+    }
+    if b > b'9' {
+        return 10;
+    }
+    (b - b'0') as usize
+}
+
+// "one to five digits and no leading zero except `0` itself": another digit may follow.
+fn may_grow(value: usize) -> bool
+    ensures { λ r. ⌜ r ≡ mayGrow value ⌝ }
+{
+    if value == 0 {
+        return false;
+    }
+    value < 10000
+}
+
+fn number(text: &[u8], at: usize) -> ReadNumber
+    ensures { λ r. ⌜ NumberFound (now (text .entry)) (readNumber (from (now (text .entry)) at)) r ⌝ }
+{
+    let mut value = digit_at(text, at);
+    if value > 9 {
+        return ReadNumber::NoNumber;
+    }
+    let mut next = at + 1;
+    loop {
+        let d = digit_at(text, next);
+        if d > 9 {
+            return ReadNumber::Value(value, next);
+        }
+        if !may_grow(value) {
+            return ReadNumber::NoNumber;
+        }
+        value = value * 10 + d;
+        next += 1;
+    }
+}
+
+// "one space between; each line ends in byte 10"
+fn number_in_line(text: &[u8], at: usize) -> InLine
+    ensures { λ r. ⌜ FoundInLine (now (text .entry)) (from (now (text .entry)) at) r ⌝ }
+{
+    let found = number(text, at);
+    let ReadNumber::Value(value, end) = found else {
+        return InLine::NotInLine;
+    };
+    if end >= text.len() {
+        return InLine::NotInLine; // a line without its end
+    }
+    if text[end] == 10 {
+        return InLine::Last(value, end + 1);
+    }
+    if text[end] == b' ' {
+        return InLine::More(value, end + 1);
+    }
+    InLine::NotInLine
+}
+
+fn line(text: &[u8], at: usize, most: usize) -> ReadLine
+    requires { ⌜ (at ≤ length (now text)) × (most ≤ 5) ⌝ }
+    ensures { λ r. ⌜ LineFound (now (text .entry)) (splitLine most (from (now (text .entry)) at)) r ⌝ }
+{
+    let mut numbers = [0usize; 5];
+    let mut next = at;
+    for k in 0..most {
+        let found = number_in_line(text, next);
+        match found {
+            InLine::Last(value, end) => {
+                numbers[k] = value;
+                return ReadLine {
+                    count: k + 1,
+                    numbers: numbers,
+                    next: end,
+                };
+            }
+            InLine::More(value, end) => {
+                numbers[k] = value;
+                next = end;
+            }
+            InLine::NotInLine => {
+                return ReadLine {
+                    count: 0,
+                    numbers: numbers,
+                    next: at,
+                };
+            }
+        }
+    }
+    ReadLine {
+        count: 0,
+        numbers: numbers,
+        next: at,
+    }
+}
+
+fn opens(text: &[u8]) -> bool
+    ensures { λ r. ⌜ r ≡ opened (now (text .entry)) ⌝ }
+{
+    if text.len() < 4 {
+        return false;
+    }
+    for i in 0..4 {
+        if text[i] != MAGIC[i] {
+            return false;
+        }
+    }
+    true
+}
+
+fn header(text: &[u8]) -> ReadLine
+    ensures { λ r. ⌜ LineFound (now (text .entry)) (firstLine (now (text .entry))) r ⌝ }
+{
+    if !opens(text) {
+        return ReadLine {
+            count: 0,
+            numbers: [0usize; 5],
+            next: 0,
+        };
+    }
+    line(text, 4, 5)
+}
+
+// Number i of a line, and 0 where it is absent.
+fn entry(found: ReadLine, i: usize) -> usize
+    requires { ⌜ i < 5 ⌝ }
+    ensures { λ r. ⌜ r ≡ getD (numbersOf found) i 0 ⌝ }
+{
+    if i >= found.count {
+        return 0;
+    }
+    let numbers = found.numbers;
+    numbers[i]
+}
+
+// I, L, O and A of the first line.
+fn counts_of(first: ReadLine) -> Counts
+    ensures { λ r. ⌜ r ≡ countsOf (numbersOf first) ⌝ }
+{
+    Counts {
+        inputs: entry(first, 1),
+        latches: entry(first, 2),
+        lamps: entry(first, 3),
+        gates: entry(first, 4),
+    }
+}
+
+// 2 and 3, for the first line; 0 for none. An ill-formed line has no numbers, which is 2.
+fn header_refusal(first: ReadLine) -> u32
+    requires { ⌜ Shape first ⌝ }
+    ensures { λ r. ⌜ r ≡ refusal (headerTests (numbersOf first)) ⌝ }
+{
+    if first.count != 5 {
+        return 2;
+    }
+    let counts = counts_of(first);
+    // "Ceilings: I 256, L 512, O 64, A 3,327"
+    if counts.inputs > 256 {
+        return 3;
+    }
+    if counts.latches > 512 {
+        return 3;
+    }
+    if counts.lamps > 64 {
+        return 3;
+    }
+    if counts.gates > 3327 {
+        return 3;
+    }
+    if entry(first, 0) != counts.inputs + counts.latches + counts.gates {
+        return 3;
+    }
+    0
+}
+
+fn input_refusal(own: usize, found: ReadLine) -> u32
+    requires { ⌜ Shape found ⌝ }
+    ensures { λ r. ⌜ ((most : ℕ) → r ≡ refusal (lineTests most (input own) (numbersOf found))) ⌝ }
+{
+    if found.count != 1 {
+        return 4;
+    }
+    if entry(found, 0) != own {
+        return 5;
+    }
+    0
+}
+
+fn latch_refusal(own: usize, most: usize, found: ReadLine) -> u32
+    requires { ⌜ Shape found ⌝ }
+    ensures { λ r. ⌜ r ≡ refusal (lineTests most (latch own) (numbersOf found)) ⌝ }
+{
+    if found.count < 2 {
+        return 4;
+    }
+    if found.count > 3 {
+        return 4;
+    }
+    if entry(found, 0) != own {
+        return 5;
+    }
+    if entry(found, 1) > most {
+        return 6;
+    }
+    if entry(found, 2) > 1 {
+        return 8;
+    }
+    0
+}
+
+fn lamp_refusal(most: usize, found: ReadLine) -> u32
+    requires { ⌜ Shape found ⌝ }
+    ensures { λ r. ⌜ r ≡ refusal (lineTests most lamp (numbersOf found)) ⌝ }
+{
+    if found.count != 1 {
+        return 4;
+    }
+    if entry(found, 0) > most {
+        return 6;
+    }
+    0
+}
+
+fn gate_refusal(own: usize, most: usize, found: ReadLine) -> u32
+    requires { ⌜ Shape found ⌝ }
+    ensures { λ r. ⌜ r ≡ refusal (lineTests most (gate own) (numbersOf found)) ⌝ }
+{
+    if found.count != 3 {
+        return 4;
+    }
+    let given = entry(found, 0);
+    if given != own {
+        return 5;
+    }
+    let left = entry(found, 1);
+    let right = entry(found, 2);
+    if left > most {
+        return 6; // 6 comes before 7
+    }
+    if right > most {
+        return 6;
+    }
+    if left >= own {
+        return 7;
+    }
+    if right >= own {
+        return 7;
+    }
+    0
+}
+
+// 4, 5, 6, then 7 or 8, for a line; 0 for none. An ill-formed line has no numbers, which is 4.
+fn line_refusal(row: Row, most: usize, found: ReadLine) -> u32
+    requires { ⌜ Shape found ⌝ }
+    ensures { λ r. ⌜ r ≡ refusal (lineTests most (kindOf row) (numbersOf found)) ⌝ }
+{
+    match row {
+        Row::Input(own) => input_refusal(own, found),
+        Row::Latch(own) => latch_refusal(own, most, found),
+        Row::Lamp => lamp_refusal(most, found),
+        Row::Gate(own) => gate_refusal(own, most, found),
+    }
+}
+
+// "Then one line for each input, latch, lamp and gate, in that order": line number i.
+fn due(counts: Counts, i: usize) -> Row
+    requires { ⌜ Bounded counts × (i < lineCount counts) ⌝ }
+    ensures { λ r. ⌜ kindOf r ≡ getD (kinds counts) i lamp ⌝ }
+{
+    if i < counts.inputs {
+        return Row::Input(2 + 2 * i);
+    }
+    if i < counts.inputs + counts.latches {
+        return Row::Latch(2 + 2 * i);
+    }
+    if i < counts.inputs + counts.latches + counts.lamps {
+        return Row::Lamp;
+    }
+    Row::Gate(2 + 2 * (i - counts.lamps))
+}
+
+// A refusal of a line, 0 for none, and the position behind the line.
+struct Judged {
+    number: u32,
+    next: usize,
+}
+
+fn judge_line(text: &[u8], at: usize, row: Row, most: usize) -> Judged
+    requires { ⌜ at ≤ length (now text) ⌝ }
+    ensures { λ r. ⌜ LineJudged (now (text .entry)) at most (kindOf row) r ⌝ }
+{
+    let found = line(text, at, 3);
+    Judged {
+        number: line_refusal(row, most, found),
+        next: found.next,
+    }
+}
+
+// "the end of the text, or a line that is just `c`"
+fn ended(text: &[u8], at: usize) -> bool
+    requires { ⌜ at ≤ length (now text) ⌝ }
+    ensures { λ r. ⌜ r ≡ ends (from (now (text .entry)) at) ⌝ }
+{
+    let rest = text.len() - at;
+    if rest < 2 {
+        return rest == 0;
+    }
+    if text[at] != b'c' {
+        return false;
+    }
+    text[at + 1] == 10
+}
+
+fn line_count(counts: Counts) -> usize
+    requires { ⌜ Bounded counts ⌝ }
+    ensures { λ r. ⌜ r ≡ lineCount counts ⌝ }
+{
+    counts.inputs + counts.latches + counts.lamps + counts.gates
+}
+
+// Line by line, and then 9; 0 for no refusal.
+fn judge_body(text: &[u8], at: usize, counts: Counts) -> u32
+    requires { ⌜ Bounded counts × (at ≤ length (now text)) ⌝ }
+    ensures { λ r. ⌜ verdict (readBody (top counts) (kinds counts) (from (now (text .entry)) at)) ≡ answer r ⌝ }
+{
+    let most = 2 * (counts.inputs + counts.latches + counts.gates) + 1;
+    let lines = line_count(counts);
+    let mut next = at;
+    for i in 0..lines {
+        let row = due(counts, i);
+        let judged = judge_line(text, next, row, most);
+        if judged.number != 0 {
+            return judged.number;
+        }
+        next = judged.next;
+    }
+    if !ended(text, next) {
+        return 9;
+    }
+    0
+}
+
+// The first refusal of 1 to 9, 0 for none; and where it is 0 what the first line says, and where the body starts.
+struct Judgement {
+    number: u32,
+    counts: Counts,
+    body: usize,
+}
+
+// "Reader: 1, 2, 3, then line by line (4, 5, 6, then 7 or 8), 9": once over the text, and nothing is written.
+fn judge(text: &[u8]) -> Judgement
+    ensures { λ r. ⌜ TextJudged (now (text .entry)) r ⌝ }
+{
+    let first = header(text);
+    let counts = counts_of(first);
+    let body = first.next;
+    if text.len() > 60000 {
+        return Judgement {
+            number: 1,
+            counts: counts,
+            body: body,
+        };
+    }
+    let number = header_refusal(first);
+    if number != 0 {
+        return Judgement {
+            number: number,
+            counts: counts,
+            body: body,
+        };
+    }
+    Judgement {
+        number: judge_body(text, body, counts),
+        counts: counts,
+        body: body,
+    }
+}
+
+// The second and the third number of a line, stored from word p on; the place behind them.
+fn fill_pair(found: ReadLine, table: &mut [u16], p: usize) -> usize
+    requires { ⌜ WordsFit (pairOf (numbersOf found)) p (now table) ⌝ }
+    ensures { λ r. ⌜ WordsFilled (pairOf (numbersOf found)) p (now (table .entry)) r (now (table .exit)) ⌝ }
+{
+    table[p] = entry(found, 1) as u16;
+    table[p + 1] = entry(found, 2) as u16;
+    p + 2
+}
+
+// The words of a line, stored from word p on; the place behind them.
+fn fill_line(row: Row, found: ReadLine, table: &mut [u16], p: usize) -> usize
+    requires { ⌜ WordsFit (words (kindOf row) (numbersOf found)) p (now table) ⌝ }
+    ensures { λ r. ⌜ WordsFilled (words (kindOf row) (numbersOf found)) p (now (table .entry)) r (now (table .exit)) ⌝ }
+{
+    match row {
+        Row::Input(_) => p,
+        Row::Latch(_) => fill_pair(found, table, p),
+        Row::Lamp => {
+            table[p] = entry(found, 0) as u16;
+            p + 1
+        }
+        Row::Gate(_) => fill_pair(found, table, p),
+    }
+}
+
+// The words of a body that nothing refuses, into the front of the table.
+fn fill(text: &[u8], at: usize, counts: Counts, table: &mut [u16])
+    requires { ⌜ Fillable (now text) at counts (now table) ⌝ }
+    ensures { λ _. ⌜ now (table .exit) ≡ over (bodyWords counts (from (now (text .entry)) at)) (now (table .entry)) ⌝ }
+{
+    let lines = line_count(counts);
+    let mut next = at;
+    let mut p = 0;
+    for i in 0..lines {
+        let row = due(counts, i);
+        let found = line(text, next, 3);
+        p = fill_line(row, found, table, p);
+        next = found.next;
+    }
+}
+
+// The answer of the reader: the number of a refusal, or 0 with I, L, O and A.
+#[repr(C)]
+pub struct ReadAnswer {
+    pub number: u32,
+    pub counts: Counts,
+}
+
+fn refused(number: u32) -> ReadAnswer
+    ensures { λ r. ⌜ (r .number ≡ number) × (r .counts ≡ zeros) ⌝ }
+{
+    ReadAnswer {
+        number: number,
+        counts: Counts {
+            inputs: 0,
+            latches: 0,
+            lamps: 0,
+            gates: 0,
+        },
+    }
+}
+
+// The text is judged as a whole before a word is stored.
+pub fn read(text: &[u8], table: &mut [u16]) -> ReadAnswer
+    ensures { λ r. ⌜ Reading (now (text .entry)) (now (table .entry)) (r .number) (r .counts) (now (table .exit)) ⌝ }
+{
+    let judgement = judge(text);
+    if judgement.number != 0 {
+        return refused(judgement.number);
+    }
+    let counts = judgement.counts;
+    if table.len() < circuit::table_length(counts) {
+        return refused(10);
+    }
+    fill(text, judgement.body, counts, table);
+    ReadAnswer {
+        number: 0,
+        counts: counts,
+    }
+}
+
+// ---- the writer: every `put` answers the position behind the bytes that it writes
+
+// The kinds of line that a text has, in the order of the text.
+const INPUT_LINE: u8 = 0;
+
+const LATCH_LINE: u8 = 1;
+
+const LAMP_LINE: u8 = 2;
+
+const GATE_LINE: u8 = 3;
+
+fn put_byte(text: &mut [u8], at: usize, byte: u8) -> usize
+    requires { ⌜ at < length (now text) ⌝ }
+    ensures { λ r. ⌜ Put (now (text .entry)) at (byte ∷ []) (now (text .exit)) r ⌝ }
+{
+    text[at] = byte;
+    at + 1
+}
+
+// "`aag` and a space"
+fn put_magic(text: &mut [u8]) -> usize
+    requires { ⌜ 4 ≤ length (now text) ⌝ }
+    ensures { λ r. ⌜ Put (now (text .entry)) 0 magic (now (text .exit)) r ⌝ }
+{
+    text[0] = MAGIC[0];
+    text[1] = MAGIC[1];
+    text[2] = MAGIC[2];
+    text[3] = MAGIC[3];
+    4
+}
+
+// The byte of one digit.
+fn digit(n: usize) -> u8
+    requires { ⌜ n < 10 ⌝ }
+    ensures { λ r. ⌜ r ≡ 48 + n ⌝ }
+{
+    48 + n as u8
+}
+
+// The most significant digit first, and "no leading zero except `0` itself".
+fn put_number(text: &mut [u8], at: usize, n: usize) -> usize
+    requires { ⌜ at + length (decimal n) ≤ length (now text) ⌝ }
+    ensures { λ r. ⌜ Put (now (text .entry)) at (decimal n) (now (text .exit)) r ⌝ }
+{
+    if n < 10 {
+        return put_byte(text, at, digit(n));
+    }
+    let last = put_number(text, at, n / 10);
+    put_byte(text, last, digit(n % 10))
+}
+
+// A number and the byte behind it.
+fn put_word(text: &mut [u8], at: usize, n: usize, behind: u8) -> usize
+    requires { ⌜ at + length (decimal n) < length (now text) ⌝ }
+    ensures { λ r. ⌜ Put (now (text .entry)) at (decimal n ++ (behind ∷ [])) (now (text .exit)) r × (r ≡ at + length (decimal n) + 1) ⌝ }
+{
+    let end = put_number(text, at, n);
+    put_byte(text, end, behind)
+}
+
+// A line's first number, 0, 1 or 2 more, and how many words of the table belong to it.
+struct LineNumbers {
+    more: usize,
+    first: usize,
+    second: usize,
+    third: usize,
+    words: usize,
+}
+
+fn put_line(text: &mut [u8], at: usize, line: LineNumbers) -> usize
+    requires { ⌜ at + length (lineText (lineNumbers line)) ≤ length (now text) ⌝ }
+    ensures { λ r. ⌜ Put (now (text .entry)) at (lineText (lineNumbers line)) (now (text .exit)) r ⌝ }
+{
+    if line.more == 0 {
+        return put_word(text, at, line.first, 10);
+    }
+    let second = put_word(text, at, line.first, 32);
+    if line.more == 1 {
+        return put_word(text, second, line.second, 10);
+    }
+    let third = put_word(text, second, line.second, 32);
+    put_word(text, third, line.third, 10)
+}
+
+// The line of a kind whose words stand at word `at`. "Written text gives the reset only where it is 1"
+fn written_line(kind: u8, own: usize, table: &[u16], at: usize) -> LineNumbers
+    requires { ⌜ (own < 100000) × (at + width (coded kind own) ≤ length (now table)) ⌝ }
+    ensures { λ r. ⌜ Shows kind own (now (table .entry)) at r ⌝ }
+{
+    if kind == INPUT_LINE {
+        return LineNumbers {
+            more: 0,
+            first: own,
+            second: 0,
+            third: 0,
+            words: 0,
+        };
+    }
+    let left = table[at] as usize;
+    if kind == LAMP_LINE {
+        return LineNumbers {
+            more: 0,
+            first: left,
+            second: 0,
+            third: 0,
+            words: 1,
+        };
+    }
+    let right = table[at + 1] as usize;
+    if kind == LATCH_LINE {
+        if right == 0 {
+            return LineNumbers {
+                more: 1,
+                first: own,
+                second: left,
+                third: 0,
+                words: 2,
+            };
+        }
+    }
+    LineNumbers {
+        more: 2,
+        first: own,
+        second: left,
+        third: right,
+        words: 2,
+    }
+}
+
+// Lines of one kind, the first with the literal `own` and its words at word `at`.
+fn put_lines(
+    text: &mut [u8],
+    start: usize,
+    kind: u8,
+    own: usize,
+    count: usize,
+    table: &[u16],
+    at: usize,
+) -> usize
+    requires { ⌜ Lines kind own count (now table) at × (start + length (block kind own count (now table) at) ≤ length (now text)) ⌝ }
+    ensures { λ r. ⌜ Put (now (text .entry)) start (block kind own count (now (table .entry)) at) (now (text .exit)) r ⌝ }
+{
+    let mut end = start;
+    let mut due = own;
+    let mut word = at;
+    for i in 0..count {
+        let line = written_line(kind, due, table, word);
+        end = put_line(text, end, line);
+        due += 2;
+        word += line.words;
+    }
+    end
+}
+
+// I L O A, and the newline.
+fn put_counts(text: &mut [u8], at: usize, counts: Counts) -> usize
+    requires { ⌜ at + length (lineText (countNumbers counts)) ≤ length (now text) ⌝ }
+    ensures { λ r. ⌜ Put (now (text .entry)) at (lineText (countNumbers counts)) (now (text .exit)) r ⌝ }
+{
+    let latches = put_word(text, at, counts.inputs, 32);
+    let lamps = put_word(text, latches, counts.latches, 32);
+    let gates = put_word(text, lamps, counts.lamps, 32);
+    put_word(text, gates, counts.gates, 10)
+}
+
+// "then M I L O A and a newline"
+fn put_header(text: &mut [u8], counts: Counts) -> usize
+    requires { ⌜ Bounded counts × (length (magic ++ lineText (headNumbers counts)) ≤ length (now text)) ⌝ }
+    ensures { λ r. ⌜ Put (now (text .entry)) 0 (magic ++ lineText (headNumbers counts)) (now (text .exit)) r ⌝ }
+{
+    let variables = put_magic(text);
+    let inputs = put_word(
+        text,
+        variables,
+        counts.inputs + counts.latches + counts.gates,
+        32,
+    );
+    put_counts(text, inputs, counts)
+}
+
+// "Then one line for each input, latch, lamp and gate, in that order."
+fn put_text(text: &mut [u8], counts: Counts, table: &[u16]) -> usize
+    requires { ⌜ Ready counts (now table) (length (now text)) ⌝ }
+    ensures { λ r. ⌜ Put (now (text .entry)) 0 (writeText counts (now (table .entry))) (now (text .exit)) r ⌝ }
+{
+    let latch = 2 + 2 * counts.inputs;
+    let gate = latch + 2 * counts.latches;
+    let lamp_words = 2 * counts.latches;
+    let gate_words = lamp_words + counts.lamps;
+    let inputs = put_header(text, counts);
+    let latches = put_lines(text, inputs, INPUT_LINE, 2, counts.inputs, table, 0);
+    let lamps = put_lines(text, latches, LATCH_LINE, latch, counts.latches, table, 0);
+    let gates = put_lines(text, lamps, LAMP_LINE, 0, counts.lamps, table, lamp_words);
+    put_lines(
+        text,
+        gates,
+        GATE_LINE,
+        gate,
+        counts.gates,
+        table,
+        gate_words,
+    )
+}
+
+// ---- the same, counted before the first byte is written
+
+fn digits(n: usize) -> usize
+    requires { ⌜ n < 100000 ⌝ }
+    ensures { λ r. ⌜ (r ≡ length (decimal n)) × (r ≤ 5) ⌝ }
+{
+    if n < 10 {
+        return 1;
+    }
+    if n < 100 {
+        return 2;
+    }
+    if n < 1000 {
+        return 3;
+    }
+    if n < 10000 {
+        return 4;
+    }
+    5
+}
+
+fn line_length(line: LineNumbers) -> usize
+    requires { ⌜ Small line ⌝ }
+    ensures { λ r. ⌜ r ≡ length (lineText (lineNumbers line)) ⌝ }
+{
+    let first = digits(line.first) + 1;
+    if line.more == 0 {
+        return first;
+    }
+    let second = first + digits(line.second) + 1;
+    if line.more == 1 {
+        return second;
+    }
+    second + digits(line.third) + 1
+}
+
+fn count_lines(start: usize, kind: u8, own: usize, count: usize, table: &[u16], at: usize) -> usize
+    requires { ⌜ Lines kind own count (now table) at × (start + length (block kind own count (now table) at) ≤ 60000) ⌝ }
+    ensures { λ r. ⌜ r ≡ start + length (block kind own count (now (table .entry)) at) ⌝ }
+{
+    let mut end = start;
+    let mut due = own;
+    let mut word = at;
+    for i in 0..count {
+        let line = written_line(kind, due, table, word);
+        end += line_length(line);
+        due += 2;
+        word += line.words;
+    }
+    end
+}
+
+// The four bytes, the five numbers, and a byte behind each.
+fn header_length(counts: Counts) -> usize
+    requires { ⌜ Bounded counts ⌝ }
+    ensures { λ r. ⌜ r ≡ length (magic ++ lineText (headNumbers counts)) ⌝ }
+{
+    let variables = digits(counts.inputs + counts.latches + counts.gates);
+    let inputs = digits(counts.inputs);
+    let latches = digits(counts.latches);
+    let lamps = digits(counts.lamps);
+    let gates = digits(counts.gates);
+    9 + variables + inputs + latches + lamps + gates
+}
+
+fn text_length(counts: Counts, table: &[u16]) -> usize
+    requires { ⌜ Ready counts (now table) 60000 ⌝ }
+    ensures { λ r. ⌜ r ≡ length (writeText counts (now (table .entry))) ⌝ }
+{
+    let latch = 2 + 2 * counts.inputs;
+    let gate = latch + 2 * counts.latches;
+    let lamp_words = 2 * counts.latches;
+    let gate_words = lamp_words + counts.lamps;
+    let inputs = header_length(counts);
+    let latches = count_lines(inputs, INPUT_LINE, 2, counts.inputs, table, 0);
+    let lamps = count_lines(latches, LATCH_LINE, latch, counts.latches, table, 0);
+    let gates = count_lines(lamps, LAMP_LINE, 0, counts.lamps, table, lamp_words);
+    count_lines(gates, GATE_LINE, gate, counts.gates, table, gate_words)
+}
+
+// ---- the call
+
+// The writer's number, and the count of bytes written.
+#[repr(C)]
+pub struct WriteAnswer {
+    pub number: u32,
+    pub bytes: usize,
+}
+
+// "Writer: 3, 10 for the table, 11, 10 for the text."
+pub fn write(counts: Counts, table: &[u16], text: &mut [u8]) -> WriteAnswer
+    ensures { λ r. ⌜ Writing counts (now (table .entry)) (now (text .entry)) (r .number) (r .bytes) (now (text .exit)) ⌝ }
+{
+    let number = circuit::circuit_refusal(counts, table);
+    if number != 0 {
+        return WriteAnswer {
+            number: number,
+            bytes: 0,
+        };
+    }
+    if text.len() < text_length(counts, table) {
+        return WriteAnswer {
+            number: 10,
+            bytes: 0,
+        };
+    }
+    let bytes = put_text(text, counts, table);
+    WriteAnswer {
+        number: 0, // written
+        bytes: bytes,
+    }
+}
