@@ -3,4 +3,3 @@ pub mod Bytes
 pub mod Call
 pub mod Execution
 pub mod Promise
-pub mod Bench

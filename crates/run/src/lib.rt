@@ -93,7 +93,8 @@ fn search(cubes: &[u8], len: usize, n: usize, b: &[u8]) -> usize
         let mut i = 0;
         while i < len {
             let c = cubes[at + i];
-            if c & b[i] != c {
+            let d = b[i];
+            if c & d != c {
                 k += 1;
                 at += len;
                 continue 'stored;

@@ -183,30 +183,30 @@ module _ (text : List ℕ) (at : ℕ) where
 -- ---- the first pass: i lines are judged, and the next one stands at `next`
 
 module _ (text : List ℕ) (at : ℕ) (c : Counts) where
-  pub record Lines (next i : ℕ) : Type 0 where
+  pub record Turns (next i : ℕ) : Type 0 where
     pub few : i ≤ lineCount c
     pub within : next ≤ length text
     pub same : verdict (readBody (top c) (kinds c) (from text at)) ≡ verdict (readBody (top c) (drop i (kinds c)) (from text next))
 
-  pub lines-first : at ≤ length text → Lines at 0
-  lines-first h = record { few = omega arith; within = h; same = refl }
+  pub turns-first : at ≤ length text → Turns at 0
+  turns-first h = record { few = omega arith; within = h; same = refl }
 
-  module _ {next i : ℕ} (s : Lines next i) where
+  module _ {next i : ℕ} (s : Turns next i) where
     module _ (h : i < lineCount c) {k : Kind} (e : k ≡ getD (kinds c) i lamp) {j : Judged} (f : LineJudged text next (top c) k j) where
       line-says : verdict (readBody (top c) (kinds c) (from text at)) ≡ after (j .number) (verdict (readBody (top c) (drop (i + 1) (kinds c)) (from text (j .next))))
       line-says = s .same ∙ rw (lines-cons c i h, ← e) (f .says _)
 
-      pub lines-stop : (j .number ≡ 0 → ⊥) → verdict (readBody (top c) (kinds c) (from text at)) ≡ answer (j .number)
-      lines-stop n = line-says ∙ after-refused _ _ n ∙ sym (after-refused _ _ n)
+      pub turns-stop : (j .number ≡ 0 → ⊥) → verdict (readBody (top c) (kinds c) (from text at)) ≡ answer (j .number)
+      turns-stop n = line-says ∙ after-refused _ _ n ∙ sym (after-refused _ _ n)
 
-      pub lines-next : j .number ≡ 0 → Lines (j .next) (i + 1)
-      lines-next n = record { few = omega arith; within = f .within; same = line-says ∙ after-none _ n }
+      pub turns-next : j .number ≡ 0 → Turns (j .next) (i + 1)
+      turns-next n = record { few = omega arith; within = f .within; same = line-says ∙ after-none _ n }
 
     module _ (h : lineCount c ≤ i) {b : Bool} (e : b ≡ ends (from text next)) where
-      pub lines-over : b ≡ false → verdict (readBody (top c) (kinds c) (from text at)) ≡ answer 9
+      pub turns-over : b ≡ false → verdict (readBody (top c) (kinds c) (from text at)) ≡ answer 9
       unfolding after
-      lines-over f = s .same ∙ rw (lines-end c i h) (verdict-refused (end-stops (top c) _ (sym e ∙ f)))
+      turns-over f = s .same ∙ rw (lines-end c i h) (verdict-refused (end-stops (top c) _ (sym e ∙ f)))
 
-      pub lines-last : b ≡ true → verdict (readBody (top c) (kinds c) (from text at)) ≡ answer 0
+      pub turns-last : b ≡ true → verdict (readBody (top c) (kinds c) (from text at)) ≡ answer 0
       unfolding after verdict onward
-      lines-last f = s .same ∙ rw (lines-end c i h, end-fits (top c) (from text next) (sym e ∙ f))
+      turns-last f = s .same ∙ rw (lines-end c i h, end-fits (top c) (from text next) (sym e ∙ f))

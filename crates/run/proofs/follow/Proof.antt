@@ -27,7 +27,7 @@ sub-reach c =
     let at = c .before .before in
     let f = at .before .before .before .before .before .pre in
     let t = at .loop .inv f in
-    some-cubes _ _ _ _ _ _ f t
+    omega (arith, some-cubes _ _ _ _ _ _ f t)
 
 mul-reach : tie.Need-mul-reach Inv-loop μ-loop
 mul-reach c =

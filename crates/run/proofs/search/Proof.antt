@@ -30,8 +30,8 @@ add-c c = omega arith
 shared-slice-read-c : tie.Need-shared-slice-read-c Inv-loop μ-loop Inv-stored μ-stored
 shared-slice-read-c c = omega arith
 
-shared-slice-read-if2 : tie.Need-shared-slice-read-if2 Inv-loop μ-loop Inv-stored μ-stored
-shared-slice-read-if2 c = omega arith
+shared-slice-read-d : tie.Need-shared-slice-read-d Inv-loop μ-loop Inv-stored μ-stored
+shared-slice-read-d c = omega arith
 
 add-k : tie.Need-add-k Inv-loop μ-loop Inv-stored μ-stored
 add-k c = omega arith
@@ -76,7 +76,7 @@ search-spec =
     loop-holds
     add-c
     shared-slice-read-c
-    shared-slice-read-if2
+    shared-slice-read-d
     add-k
     add-at
     stored-less
