@@ -17,8 +17,9 @@ use Rattle.circuit.specs.Table.{circuitOf}
 use Rattle.run.specs.Run.{lampsIn, merge, verdict, settled}
 use Rattle.run.specs.Bytes.{cubeIn}
 use Rattle.run.specs.Call.{Judgeable, Settleable}
+use Rattle.run.proofs.Wider.{merge-sized}
 use Rattle.run.proofs.Reaching.{part-tail}
-use Rattle.run.proofs.Merging.{over-over, length-over, merge-sized, Merged, merged-first, merged-record, merged-length, merged-next, merged-last}
+use Rattle.run.proofs.Merging.{over-over, length-over, Merged, merged-first, merged-record, merged-length, merged-next, merged-last}
 
 -- ---- where a cube stands
 
@@ -27,14 +28,18 @@ place-below n len k size h l = omega (arith, mul-le-mul-right len h, suc-mul k l
 
 -- ---- the lamps
 
+-- a field for each lamp
+pub lamps-counted : (c : Counts) (words : List ℕ) (v : Cube) → length (lampsIn (circuitOf c words) v) ≡ c .lamps
+unfolding lampsIn lamps circuitOf
+lamps-counted c words v = length-map (circuitOf c words .lamps) _ ∙ length-tabulate (c .lamps) _
+
 module _ (c : Counts) (words cubes : List ℕ) where
   -- the lamps in cube number k
   abbrev pub lampsOf : ℕ → Cube
   lampsOf k = lampsIn (circuitOf c words) (cubeIn (c .latches) cubes k)
 
   pub lamps-sized : (k : ℕ) → length (lampsOf k) ≡ c .lamps
-  unfolding lampsIn lamps circuitOf
-  lamps-sized k = length-map (circuitOf c words .lamps) _ ∙ length-tabulate (c .lamps) _
+  lamps-sized k = lamps-counted c words _
 
   -- the loop's invariant, from what the buffer held where it begins
   abbrev pub Judged : List ℕ → List ℕ → ℕ → Type 0
@@ -106,7 +111,7 @@ module _ (c : Counts) (words : List ℕ) (len n : ℕ) (cubes : List ℕ) (j : J
         ∙ over-over (pack (lampsAt 0)) _ entry (omega (arith, lamps-long 0, merged-long))
       where
         merged-long : length (pack (merge lampsAt 0 (n - 1))) ≡ bytesFor (c .lamps)
-        merged-long = rw (length-pack, merge-sized (c .lamps) lampsAt (lamps-sized c words cubes) 0 begun (n - 1))
+        merged-long = rw (length-pack, merge-sized lampsAt (c .lamps) (lamps-sized c words cubes) 0 (n - 1))
 
 -- ---- the latches
 
@@ -171,7 +176,7 @@ module _ (latches len n j : ℕ) (cubes : List ℕ) (s : Settleable latches len 
         ∙ over-over (pack (cubeIn latches cubes j)) _ entry (omega (arith, cube-long j, merged-long))
       where
         merged-long : length (pack (merge (cubeIn latches cubes) j (n - 1 - j))) ≡ bytesFor latches
-        merged-long = rw (length-pack, merge-sized latches (cubeIn latches cubes) (cubeIn-sized latches cubes) j begun (n - 1 - j))
+        merged-long = rw (length-pack, merge-sized (cubeIn latches cubes) latches (cubeIn-sized latches cubes) j (n - 1 - j))
 
 -- ---- the judge
 
@@ -184,11 +189,11 @@ module _ (c : Counts) (words : List ℕ) (n : ℕ) (cubes : List ℕ) (j : Judge
 
   pub settled-record-of : (k : ℕ) (entry exit : List ℕ) → bytesFor (c .latches) ≤ length entry → exit ≡ over (pack (settled (cubeIn (c .latches) cubes) n k)) entry → IsRecord (c .latches) exit
   unfolding settled
-  settled-record-of k entry exit room e = rw e (record-over (c .latches) _ entry (merge-sized (c .latches) (cubeIn (c .latches) cubes) (cubeIn-sized (c .latches) cubes) k [] (n - 1 - k)) room)
+  settled-record-of k entry exit room e = rw e (record-over (c .latches) _ entry (merge-sized (cubeIn (c .latches) cubes) (c .latches) (cubeIn-sized (c .latches) cubes) k (n - 1 - k)) room)
 
   pub settled-known : (k s : ℕ) (entry exit : List ℕ) → exit ≡ over (pack (settled (cubeIn (c .latches) cubes) n k)) entry → s ≡ knownFields (unpack (c .latches) exit)
       → s ≡ knownFields (settled (cubeIn (c .latches) cubes) n k)
   unfolding settled
   settled-known k s entry exit e es =
       es ∙ ap (λ (l : List ℕ). knownFields (unpack (c .latches) l)) e
-      ∙ ap knownFields (unpack-over (c .latches) _ entry (merge-sized (c .latches) (cubeIn (c .latches) cubes) (cubeIn-sized (c .latches) cubes) k [] (n - 1 - k)))
+      ∙ ap knownFields (unpack-over (c .latches) _ entry (merge-sized (cubeIn (c .latches) cubes) (c .latches) (cubeIn-sized (c .latches) cubes) k (n - 1 - k)))

@@ -9,8 +9,8 @@ use Rattle.three.specs.Lists.{over}
 use Rattle.three.specs.Cube.{Cube, merged}
 use Rattle.three.specs.Record.{bytesFor, pack, unpack, IsRecord}
 use Rattle.three.proofs.Pack.{length-pack, unpack-over, record-over}
-use Rattle.three.proofs.Merge.{length-merged}
 use Rattle.run.specs.Run.{merge}
+use Rattle.run.proofs.Wider.{merge-sized}
 
 -- what is written over a buffer hides what was written there before
 pub over-over : (s t d : List ℕ) → length s ≤ length t → over t (over s d) ≡ over t d
@@ -29,11 +29,6 @@ unfolding over
 length-over s d h = rw (length-append, length-drop) (omega arith)
 
 module _ (size : ℕ) (f : ℕ → Cube) (sized : (k : ℕ) → length (f k) ≡ size) (base : ℕ) (d : List ℕ) where
-  pub merge-sized : (more : ℕ) → length (merge f base more) ≡ size
-  unfolding merge
-  merge-sized zero = sized base
-  merge-sized (suc more) = length-merged _ _ ∙ merge-sized more
-
   pack-sized : (m : Cube) → length m ≡ size → length (pack m) ≡ bytesFor size
   pack-sized m e = rw (length-pack, e)
 
@@ -48,10 +43,10 @@ module _ (size : ℕ) (f : ℕ → Cube) (sized : (k : ℕ) → length (f k) ≡
     merged-first k p e = record { more = 0; place = p; same = e }
 
     pub merged-record : (e : List ℕ) (k : ℕ) → Merged e k → IsRecord size e
-    merged-record e k m = rw (m .same) (record-over size (merge f base (m .more)) d (merge-sized (m .more)) room)
+    merged-record e k m = rw (m .same) (record-over size (merge f base (m .more)) d (merge-sized f size sized base (m .more)) room)
 
     pub merged-length : (e : List ℕ) (k : ℕ) → Merged e k → length e ≡ length d
-    merged-length e k m = ap length (m .same) ∙ length-over _ d (omega (arith, pack-sized (merge f base (m .more)) (merge-sized (m .more))))
+    merged-length e k m = ap length (m .same) ∙ length-over _ d (omega (arith, pack-sized (merge f base (m .more)) (merge-sized f size sized base (m .more))))
 
     pub merged-next : (e e′ : List ℕ) (k : ℕ) (x : Cube) → Merged e k → x ≡ f k → e′ ≡ over (pack (merged (unpack size e) x)) e → Merged e′ (k + 1)
     unfolding merge
@@ -59,11 +54,11 @@ module _ (size : ℕ) (f : ℕ → Cube) (sized : (k : ℕ) → length (f k) ≡
       more = suc (m .more);
       place = omega (arith, m .place);
       same =
-          let whole : unpack size e ≡ merge f base (m .more) = rw (m .same) (unpack-over size (merge f base (m .more)) d (merge-sized (m .more))) in
+          let whole : unpack size e ≡ merge f base (m .more) = rw (m .same) (unpack-over size (merge f base (m .more)) d (merge-sized f size sized base (m .more))) in
           let both : merged (unpack size e) x ≡ merge f base (suc (m .more)) = ap₂ merged whole (ex ∙ ap f (m .place)) in
           ee ∙ ap₂ (λ (v : Cube) (l : List ℕ). over (pack v) l) both (m .same)
           ∙ over-over (pack (merge f base (m .more))) (pack (merge f base (suc (m .more)))) d
-          (omega (arith, pack-sized (merge f base (m .more)) (merge-sized (m .more)), pack-sized (merge f base (suc (m .more))) (merge-sized (suc (m .more)))));
+          (omega (arith, pack-sized (merge f base (m .more)) (merge-sized f size sized base (m .more)), pack-sized (merge f base (suc (m .more))) (merge-sized f size sized base (suc (m .more)))));
     }
 
     pub merged-last : (e : List ℕ) (k n : ℕ) → Merged e k → k ≡ n → e ≡ over (pack (merge f base (n - 1 - base))) d

@@ -5,19 +5,18 @@ use mathlib.Core.List.{List}
 use Prim.Native.Nat.{ℕ, zero, suc, _+_, _*_, _-_, _%_, _<_, _≤_}
 use native.Mathlib.Nat.{mod-lt}
 use native.Mathlib.Omega.{arith}
-use lib.ListN.{length, getD, length-map}
+use lib.ListN.{length, getD}
 use Rattle.three.specs.Lists.{over}
 use Rattle.three.specs.Cube.{Cube, _∋_}
 use Rattle.three.specs.Record.{pack, unpack}
 use Rattle.three.proofs.Lists.{length-tabulate}
 use Rattle.three.proofs.Pack.{unpack-over}
 use Rattle.circuit.specs.declared.Counts.{Counts}
-use Rattle.circuit.specs.Circuit.{Circuit, lamps}
 use Rattle.circuit.specs.Refusal.{accepted}
 use Rattle.circuit.specs.Table.{circuitOf}
 use Rattle.circuit.proofs.Refusals.{accepted-new}
 use Rattle.run.specs.declared.RunAnswer.{RunAnswer}
-use Rattle.run.specs.Run.{lampsIn, cubeAt, Outcome, closed, full, run, verdict, settled}
+use Rattle.run.specs.Run.{cubeAt, Outcome, closed, full, run, verdict, settled}
 use Rattle.run.specs.Bytes.{cubeIn, packedCubes}
 use Rattle.run.specs.Call.{roomIn, storedCubes, isClosed, backTo, outcomeNumber, Given, refusedBy, circuitIn, outcomeIn, cubesIn, backIn, verdictFields, settledFields, Runs}
 use Rattle.run.specs.Execution.{stateAfter, resets}
@@ -25,7 +24,8 @@ use Rattle.run.specs.Promise.{Covered, Promises}
 use Rattle.run.proofs.Promise.{resets-start, covered-early, covered-late, lamp-judged, latch-settled}
 use Rattle.run.proofs.Closes.{run-closes}
 use Rattle.run.proofs.Chaining.{cubes-sized}
-use Rattle.run.proofs.Merging.{merge-sized}
+use Rattle.run.proofs.Wider.{merge-sized}
+use Rattle.run.proofs.Judging.{lamps-counted}
 use Rattle.run.proofs.Calling.{closed-is, closed-within, cube-in}
 
 -- ---- number 0 says: not refused, and closed
@@ -43,17 +43,13 @@ closed-says room o e = (rw e, rw e)
 -- ---- the fields of verdict and settled record
 
 module _ (c : Counts) (words : List ℕ) (w n j : ℕ) where
-  lamps-sized : (k : ℕ) → length (lampsIn (circuitOf c words) (cubeAt (circuitOf c words) w k)) ≡ c .lamps
-  unfolding lampsIn lamps circuitOf
-  lamps-sized k = length-map (circuitOf c words .lamps) _ ∙ length-tabulate (c .lamps) _
-
   verdict-sized : length (verdict (circuitOf c words) (cubeAt (circuitOf c words) w) n) ≡ c .lamps
   unfolding verdict
-  verdict-sized = merge-sized (c .lamps) _ lamps-sized 0 words (n - 1)
+  verdict-sized = merge-sized _ (c .lamps) (λ k. lamps-counted c words _) 0 (n - 1)
 
   settled-sized : length (settled (cubeAt (circuitOf c words) w) n j) ≡ c .latches
   unfolding settled
-  settled-sized = merge-sized (c .latches) _ (cubes-sized c words w words) j words (n - 1 - j)
+  settled-sized = merge-sized _ (c .latches) (cubes-sized c words w words) j (n - 1 - j)
 
 -- ---- the promises
 

@@ -10,6 +10,7 @@ use Rattle.three.specs.Lists.{adjust, empty, also}
 use Rattle.three.specs.Value.{Three, unknown, low, high, code}
 use Rattle.three.specs.Cube.{Cube, alike, allows, subsumes, blank, agree, merged, Holds, any, off, on, _∋_}
 use Rattle.three.proofs.Lists.{and-parts, length-adjust, each-adjust}
+use Rattle.three.proofs.Merge.{length-merged}
 use Rattle.circuit.specs.Circuit.{Circuit, next}
 use Rattle.run.specs.Run.{hold, nextCube, start, reached, Stage, store, stage, cubeAt, merge}
 use Rattle.run.specs.Execution.{Inside}
@@ -72,10 +73,10 @@ merged-right [] e (also h hs) = absurd (omega arith)
 merged-right (x ∷ a) e (also h hs) = also (agree-holds x h) (merged-right a (omega arith) hs)
 
 module _ (cubes : ℕ → Cube) (size : ℕ) (sized : (k : ℕ) → length (cubes k) ≡ size) (k : ℕ) where
-  merge-sized : (more : ℕ) → length (merge cubes k more) ≡ size
-  unfolding merge merged
+  pub merge-sized : (more : ℕ) → length (merge cubes k more) ≡ size
+  unfolding merge
   merge-sized zero = sized k
-  merge-sized (suc more) = length-adjust _ _ _ ∙ merge-sized more
+  merge-sized (suc more) = length-merged _ _ ∙ merge-sized more
 
   -- the merge of cubes k to k + more holds what any of them holds
   pub merge-widens : (more i : ℕ) → k ≤ i → i ≤ k + more → {s : List Bool} → cubes i ∋ s → merge cubes k more ∋ s
