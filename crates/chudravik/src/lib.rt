@@ -1,0 +1,51 @@
+// The C interface (include/chudravik.h): each public call under its C name, with the same contract, and nothing else.
+use circuit::Counts;
+use run::RunAnswer;
+use text::ReadAnswer;
+use text::WriteAnswer;
+ghost use Rattle.circuit.specs.Tick.{Ticked};
+ghost use Rattle.text.specs.Calls.{Reading, Writing};
+ghost use Rattle.run.specs.Call.{Runs};
+ghost use Rattle.run.specs.Promise.{Promises};
+
+#[no_mangle]
+pub extern "C" fn chudravik_read(text: &[u8], table: &mut [u16]) -> ReadAnswer
+    ensures { λ r. ⌜ Reading (now (text .entry)) (now (table .entry)) (r .number) (r .counts) (now (table .exit)) ⌝ }
+{
+    text::read(text, table)
+}
+
+#[no_mangle]
+pub extern "C" fn chudravik_write(counts: Counts, table: &[u16], text: &mut [u8]) -> WriteAnswer
+    ensures { λ r. ⌜ Writing counts (now (table .entry)) (now (text .entry)) (r .number) (r .bytes) (now (text .exit)) ⌝ }
+{
+    text::write(counts, table, text)
+}
+
+#[no_mangle]
+pub extern "C" fn chudravik_tick(
+    counts: Counts,
+    table: &[u16],
+    state: &[u8],
+    switches: &[u8],
+    next: &mut [u8],
+    lamps: &mut [u8],
+) -> u32
+    ensures { λ r. ⌜ Ticked (record { counts = counts; table = now (table .entry); state = now (state .entry); switches = now (switches .entry); next = now (next .entry); lamps = now (lamps .entry) }) r (now (next .exit)) (now (lamps .exit)) ⌝ }
+{
+    circuit::tick(counts, table, state, switches, next, lamps)
+}
+
+#[no_mangle]
+pub extern "C" fn chudravik_run(
+    counts: Counts,
+    table: &[u16],
+    w: usize,
+    cubes: &mut [u8],
+    verdict: &mut [u8],
+    settled: &mut [u8],
+) -> RunAnswer
+    ensures { λ r. ⌜ Runs (record { counts = counts; table = now (table .entry); w = w; cubes = now (cubes .entry); verdict = now (verdict .entry); settled = now (settled .entry) }) r (now (cubes .exit)) (now (verdict .exit)) (now (settled .exit)) × Promises (record { counts = counts; table = now (table .entry); w = w; cubes = now (cubes .entry); verdict = now (verdict .entry); settled = now (settled .entry) }) r (now (cubes .exit)) (now (verdict .exit)) (now (settled .exit)) ⌝ }
+{
+    run::run(counts, table, w, cubes, verdict, settled)
+}
