@@ -1,3 +1,4 @@
+pub mod Beyond
 pub mod Determined
 pub mod Passing
 pub mod Refusals

@@ -7,7 +7,7 @@ use native.Mathlib.Nat.{mod-lt}
 use native.Mathlib.Omega.{arith}
 use lib.ListN.{length, getD}
 use Rattle.three.specs.Lists.{over}
-use Rattle.three.specs.Cube.{Cube, _∋_}
+use Rattle.three.specs.Cube.{Cube, _∋_, knownFields}
 use Rattle.three.specs.Record.{pack, unpack}
 use Rattle.three.proofs.Lists.{length-tabulate}
 use Rattle.three.proofs.Pack.{unpack-over}
@@ -40,6 +40,12 @@ closed-says : (room : ℕ) (o : Outcome) {n j : ℕ} → o ≡ closed n j → (o
 unfolding outcomeNumber storedCubes
 closed-says room o e = (rw e, rw e)
 
+-- and any other number, where nothing is refused before: no room
+number-says : (o : Outcome) {k : ℕ} → k ≡ outcomeNumber o → (k ≡ 0 → ⊥) → (k ≡ 15) × (o ≡ full)
+unfolding outcomeNumber
+number-says (closed n j) e h = absurd (h e)
+number-says full e h = (e, refl)
+
 -- ---- the fields of verdict and settled record
 
 module _ (c : Counts) (words : List ℕ) (w n j : ℕ) where
@@ -70,7 +76,7 @@ module _ (g : Given) (r : RunAnswer) (cubes verdict′ settled′ : List ℕ) (r
     j-is : r .back ≡ backIn g
     j-is = runs .goes-back ∙ taken _ _
 
-    outcome-is : outcomeIn g ≡ closed (r .cubes) (r .back)
+    pub outcome-is : outcomeIn g ≡ closed (r .cubes) (r .back)
     unfolding cubesIn backIn
     outcome-is = closed-is (roomIn (g .counts) (g .cubes)) (outcomeIn g) (says .1) ∙ ap₂ closed (sym n-is) (sym j-is)
 
@@ -84,19 +90,23 @@ module _ (g : Given) (r : RunAnswer) (cubes verdict′ settled′ : List ℕ) (r
         sym (cube-in (g .counts) (g .table) (g .w) (g .cubes) (r .cubes) cubes
         (runs .fills-cubes ∙ taken _ _ ∙ ap (λ (n : ℕ). over (packedCubes (circuitIn g) (g .w) n) (g .cubes)) (sym n-is)) k h)
 
-    verdict-is : unpack (g .counts .lamps) verdict′ ≡ verdict (circuitIn g) (cubeAt (circuitIn g) (g .w)) (r .cubes)
+    pub verdict-is : unpack (g .counts .lamps) verdict′ ≡ verdict (circuitIn g) (cubeAt (circuitIn g) (g .w)) (r .cubes)
     unfolding verdictFields circuitIn
     verdict-is =
         ap (unpack (g .counts .lamps)) (runs .fills-verdict ∙ written _ _)
         ∙ unpack-over (g .counts .lamps) (verdictFields g) (g .verdict) (verdict-sized (g .counts) (g .table) (g .w) (cubesIn g) 0)
         ∙ ap (verdict (circuitIn g) (cubeAt (circuitIn g) (g .w))) (sym n-is)
 
-    settled-is : unpack (g .counts .latches) settled′ ≡ settled (cubeAt (circuitIn g) (g .w)) (r .cubes) (r .back)
+    pub settled-is : unpack (g .counts .latches) settled′ ≡ settled (cubeAt (circuitIn g) (g .w)) (r .cubes) (r .back)
     unfolding settledFields circuitIn
     settled-is =
         ap (unpack (g .counts .latches)) (runs .fills-settled ∙ written _ _)
         ∙ unpack-over (g .counts .latches) (settledFields g) (g .settled) (settled-sized (g .counts) (g .table) (g .w) (cubesIn g) (backIn g))
         ∙ ap₂ (settled (cubeAt (circuitIn g) (g .w))) (sym n-is) (sym j-is)
+
+    pub count-is : r .settled ≡ knownFields (settled (cubeAt (circuitIn g) (g .w)) (r .cubes) (r .back))
+    unfolding settledFields
+    count-is = runs .settles ∙ written _ _ ∙ ap knownFields (ap₂ (settled (cubeAt (circuitIn g) (g .w))) (sym n-is) (sym j-is))
 
     run-covers : (switches : ℕ → ℕ → Bool) → Covered g r cubes verdict′ settled′ switches
     unfolding outcomeIn
@@ -112,6 +122,9 @@ module _ (g : Given) (r : RunAnswer) (cubes verdict′ settled′ : List ℕ) (r
       where
         in-loop : (t : ℕ) → r .back + (t - r .back) % (r .cubes - r .back) < r .cubes
         in-loop t = let small : (t - r .back) % (r .cubes - r .back) < r .cubes - r .back = mod-lt (t - r .back) (omega (arith, below)) in omega (arith, below)
+
+  pub only-full : refusedBy g ≡ 0 → (r .number ≡ 0 → ⊥) → (r .number ≡ 15) × (outcomeIn g ≡ full)
+  only-full ok h = number-says (outcomeIn g) (runs .answers ∙ sym (accepted-new (refusedBy g) _ _ ok)) h
 
   latches-sized : length (circuitIn g .latches) ≡ g .counts .latches
   unfolding circuitIn circuitOf

@@ -4,6 +4,7 @@ pub mod Decimals
 pub mod Lines
 pub mod Tables
 pub mod Steps
+pub mod Numbers
 pub mod Grammar
 pub mod Bound
 pub mod Answers

@@ -3,18 +3,18 @@ use mathlib.Core.Path.{_≡_, refl, ap}
 use mathlib.Core.List.{List, [], _∷_, _++_}
 use Prim.Native.Nat.{ℕ, zero, suc, _≤_}
 use native.Mathlib.Omega.{arith}
-use lib.ListN.{length, take, drop, length-drop}
-use lib.Seq.{take-add, drop-at, length-take-le, take-append-seam}
+use lib.ListN.{length, take, drop, length-drop, length-append}
+use lib.Seq.{take-add, take-at, drop-at, length-take-le, take-append-seam}
 use Rattle.three.specs.Lists.{over}
 use Rattle.circuit.specs.declared.Counts.{Counts}
 use Rattle.circuit.specs.Refusal.{Test, refusal, accepted as afterwards}
-use Rattle.circuit.specs.Table.{top, tableLength, Kind, input, latch, lamp, gate, kinds, width, rowTests, tableTests}
+use Rattle.circuit.specs.Table.{top, tableLength, Kind, input, latch, lamp, gate, kinds, width, rowTests, tableTests, Bounded}
 use Rattle.circuit.specs.Tick.{circuitTests}
 use Rattle.text.specs.Outcome.{accepted}
 use Rattle.text.specs.Text.{shown, numbers, writeBody, writeText, Content, readText}
 use Rattle.text.specs.Calls.{Reading, Writing}
 use Rattle.text.proofs.Tables.{size, size-kinds, Taken, taken, taken-refusal}
-use Rattle.text.proofs.Grammar.{Spelled, inputLine, latchLine, latchPlain, lampLine, gateLine, Says, stop, line, Describes, described}
+use Rattle.text.proofs.Grammar.{Spelled, inputLine, latchLine, latchPlain, lampLine, gateLine, Says, stop, line, Describes, described, describes}
 use Rattle.text.proofs.Bound.{text-bound}
 use Rattle.text.proofs.Answers.{read-fits, reading-accepted, write-legal}
 
@@ -58,6 +58,32 @@ taken-words c table k = record {
   long = omega (arith, length-take-le (tableLength c) table (k .long));
   rules = rw (← size-kinds c, take-rules (top c) (kinds c) table (omega (arith, size-kinds c))) (k .rules);
 }
+
+-- and the other way: a table that opens with such words is not refused either
+taken-table : (c : Counts) (table : List ℕ) → tableLength c ≤ length table → Taken c (take (tableLength c) table) → Taken c table
+taken-table c table h k = record {
+  bounded = k .bounded;
+  long = h;
+  rules = rw (← size-kinds c, take-rules (top c) (kinds c) table (omega (arith, size-kinds c))) at (k .rules);
+}
+
+-- what the reader leaves in a table: the words read stand in front, and 3, 10 and 11 do not refuse it
+pub record Filled (c : Content) (table : List ℕ) : Type 0 where
+  pub front : take (tableLength (c .counts)) table ≡ c .words
+  pub taken-now : 0 ≡ refusal (circuitTests (c .counts) table)
+  pub few : Bounded (c .counts)
+
+pub read-filled : (text : List ℕ) {c : Content} → readText text ≡ accepted c → (lent : List ℕ) → tableLength (c .counts) ≤ length lent → Filled c (over (c .words) lent)
+unfolding over
+read-filled text {c} e lent h =
+    let d = describes text e in
+    let first = take-at (c .words) (drop (length (c .words)) lent) (tableLength (c .counts)) (d .whole) in
+    let k : Taken (c .counts) (c .words) = taken (c .counts) (c .words) (d .legal) in
+    record {
+      front = first;
+      taken-now = taken-refusal (taken-table (c .counts) _ (simp (length-append, length-drop) (omega (arith, d .whole))) (rw first k));
+      few = k .bounded;
+    }
 
 -- what the writer is given: the counts, and the words that belong to them
 abbrev pub given : Counts → List ℕ → Content

@@ -556,7 +556,7 @@ fn digit(n: usize) -> u8
 }
 
 // The most significant digit first, and "no leading zero except `0` itself".
-fn put_number(text: &mut [u8], at: usize, n: usize) -> usize
+pub fn put_number(text: &mut [u8], at: usize, n: usize) -> usize
     requires { ⌜ at + length (decimal n) ≤ length (now text) ⌝ }
     ensures { λ r. ⌜ Put (now (text .entry)) at (decimal n) (now (text .exit)) r ⌝ }
 {

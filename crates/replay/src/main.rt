@@ -1,0 +1,385 @@
+// Replays a stored list of vectors through the public calls: each line of the list gives one line, what the call
+// answered and what it left in each buffer that it was lent. A comment is its own line.
+//
+//   read WORDS BYTES TEXT                                      a table of WORDS words; the text, `x` behind it up to BYTES
+//   write I L O A WORDS w.. BYTES                              the table; a text buffer of BYTES bytes
+//   tick I L O A WORDS w.. STATE b.. SWITCHES b.. NEXT LAMPS   the table, two records; the lengths of the results
+//   run I L O A WORDS w.. W CUBES VERDICT SETTLED              the table; the interval; the lengths of the results
+//
+// In TEXT `/` stands for byte 10, and `\hh` for any byte; what goes beyond BYTES is cut. A list, w.. or b.., has its
+// length in front of it. Each buffer that is lent has 0xFF in every byte. In an answer equal elements that follow each
+// other are value*count, bytes in hex and words in decimal, and `-` is a buffer of length 0.
+mod say;
+mod vector;
+
+use circuit::Counts;
+use libc::STDIN_FILENO;
+use say::say;
+use say::say_bytes;
+use say::say_number;
+use say::say_words;
+use vector::Cursor;
+ghost use Rattle.io.specs.Counts.{Counts as Within};
+
+// The longest buffers of a vector, beyond every length that the calls judge by.
+const MOST_BYTES: usize = 66_000;
+
+const MOST_WORDS: usize = 8_192;
+
+const MOST_LIST: usize = 131_072;
+
+// What a call leaves untouched shows these.
+const UNTOUCHED: u8 = 0xFF;
+
+const UNTOUCHED_WORD: u16 = 0xFFFF;
+
+fn not_a_vector() {
+    say(b"not a vector\n");
+}
+
+fn too_large() {
+    say(b"too large\n");
+}
+
+// As many of the buffer's bytes as a vector says, and all where it has fewer.
+fn bytes_within(bytes: usize, buffer: &[u8]) -> usize
+    ensures { λ r. ⌜ Within r (now (buffer .entry)) ⌝ }
+{
+    if bytes < buffer.len() {
+        bytes
+    } else {
+        buffer.len()
+    }
+}
+
+// As many of the buffer's words as a vector says, and all where it has fewer.
+fn words_within(words: usize, buffer: &[u16]) -> usize
+    ensures { λ r. ⌜ Within r (now (buffer .entry)) ⌝ }
+{
+    if words < buffer.len() {
+        words
+    } else {
+        buffer.len()
+    }
+}
+
+// ---- read
+
+fn show_read(text: &[u8], table: &mut [u16]) {
+    let answer = text::read(text, table);
+    say_number(b"read number ", answer.number as usize);
+    let counts = answer.counts;
+    say_number(b" I ", counts.inputs);
+    say_number(b" L ", counts.latches);
+    say_number(b" O ", counts.lamps);
+    say_number(b" A ", counts.gates);
+    say_words(b"; table", table);
+    say(b"\n");
+}
+
+fn read_lent(text: &[u8], bytes: usize, words: usize) {
+    let mut table = [UNTOUCHED_WORD; MOST_WORDS];
+    let given = bytes_within(bytes, text);
+    let lent = words_within(words, &table);
+    if given < bytes || lent < words {
+        too_large();
+        return;
+    }
+    show_read(&text[..given], &mut table[..lent]);
+}
+
+fn read_vector(line: &[u8]) {
+    let words = vector::number(line, 5);
+    let bytes = vector::next(line, words);
+    let mut text = [b'x'; MOST_BYTES];
+    if !vector::text(line, bytes, &mut text) {
+        not_a_vector();
+        return;
+    }
+    read_lent(&text, bytes.value, words.value);
+}
+
+// ---- write
+
+fn show_write(counts: Counts, table: &[u16], text: &mut [u8]) {
+    let answer = text::write(counts, table, text);
+    say_number(b"write number ", answer.number as usize);
+    say_number(b" bytes ", answer.bytes);
+    say_bytes(b"; text", text);
+    say(b"\n");
+}
+
+fn write_lent(counts: Counts, table: &[u16], words: usize, bytes: usize) {
+    let mut text = [UNTOUCHED; MOST_BYTES];
+    let given = words_within(words, table);
+    let lent = bytes_within(bytes, &text);
+    if given < words || lent < bytes {
+        too_large();
+        return;
+    }
+    show_write(counts, &table[..given], &mut text[..lent]);
+}
+
+fn write_vector(line: &[u8]) {
+    let mut table = [0u16; MOST_WORDS];
+    let circuit = circuit_at(line, 6, &mut table);
+    let bytes = vector::next(line, circuit.behind);
+    if !vector::ends(line, bytes) {
+        not_a_vector();
+        return;
+    }
+    let counts = circuit.counts;
+    write_lent(counts, &table, circuit.words, bytes.value);
+}
+
+// ---- tick
+
+fn show_tick(
+    counts: Counts,
+    table: &[u16],
+    state: &[u8],
+    switches: &[u8],
+    next: &mut [u8],
+    lamps: &mut [u8],
+) {
+    let number = circuit::tick(counts, table, state, switches, next, lamps);
+    say_number(b"tick number ", number as usize);
+    say_bytes(b"; next", next);
+    say_bytes(b"; lamps", lamps);
+    say(b"\n");
+}
+
+fn tick_lent(
+    counts: Counts,
+    table: &[u16],
+    state: &[u8],
+    switches: &[u8],
+    next_bytes: usize,
+    lamps_bytes: usize,
+) {
+    let mut next = [UNTOUCHED; MOST_BYTES];
+    let mut lamps = [UNTOUCHED; MOST_BYTES];
+    let next_lent = bytes_within(next_bytes, &next);
+    let lamps_lent = bytes_within(lamps_bytes, &lamps);
+    if next_lent < next_bytes || lamps_lent < lamps_bytes {
+        too_large();
+        return;
+    }
+    show_tick(
+        counts,
+        table,
+        state,
+        switches,
+        &mut next[..next_lent],
+        &mut lamps[..lamps_lent],
+    );
+}
+
+// What a tick is given, by its length.
+struct TickGiven {
+    words: usize,
+    state: usize,
+    switches: usize,
+}
+
+fn tick_given(
+    counts: Counts,
+    given: TickGiven,
+    table: &[u16],
+    state: &[u8],
+    switches: &[u8],
+    next_bytes: usize,
+    lamps_bytes: usize,
+) {
+    let words = words_within(given.words, table);
+    let state_bytes = bytes_within(given.state, state);
+    let switches_bytes = bytes_within(given.switches, switches);
+    if words < given.words || state_bytes < given.state || switches_bytes < given.switches {
+        too_large();
+        return;
+    }
+    tick_lent(
+        counts,
+        &table[..words],
+        &state[..state_bytes],
+        &switches[..switches_bytes],
+        next_bytes,
+        lamps_bytes,
+    );
+}
+
+fn tick_vector(line: &[u8]) {
+    let mut table = [0u16; MOST_WORDS];
+    let mut state = [0u8; MOST_BYTES];
+    let mut switches = [0u8; MOST_BYTES];
+    let circuit = circuit_at(line, 5, &mut table);
+    let state_bytes = vector::next(line, circuit.behind);
+    let behind_state = vector::bytes(line, state_bytes, &mut state);
+    let switches_bytes = vector::next(line, behind_state);
+    let behind_switches = vector::bytes(line, switches_bytes, &mut switches);
+    let next_bytes = vector::next(line, behind_switches);
+    let lamps_bytes = vector::next(line, next_bytes);
+    if !vector::ends(line, lamps_bytes) {
+        not_a_vector();
+        return;
+    }
+    let given = TickGiven {
+        words: circuit.words,
+        state: state_bytes.value,
+        switches: switches_bytes.value,
+    };
+    let counts = circuit.counts;
+    tick_given(
+        counts,
+        given,
+        &table,
+        &state,
+        &switches,
+        next_bytes.value,
+        lamps_bytes.value,
+    );
+}
+
+// ---- run
+
+fn show_run(
+    counts: Counts,
+    table: &[u16],
+    w: usize,
+    cubes: &mut [u8],
+    verdict: &mut [u8],
+    settled: &mut [u8],
+) {
+    let answer = run::run(counts, table, w, cubes, verdict, settled);
+    say_number(b"run number ", answer.number as usize);
+    say_number(b" n ", answer.cubes);
+    say_number(b" j ", answer.back);
+    say_number(b" s ", answer.settled);
+    say_bytes(b"; cubes", cubes);
+    say_bytes(b"; verdict", verdict);
+    say_bytes(b"; settled", settled);
+    say(b"\n");
+}
+
+// What a run is lent, by its length.
+struct RunLent {
+    cubes: usize,
+    verdict: usize,
+    settled: usize,
+}
+
+fn run_lent(counts: Counts, table: &[u16], w: usize, lent: RunLent) {
+    let mut cubes = [UNTOUCHED; MOST_BYTES];
+    let mut verdict = [UNTOUCHED; MOST_BYTES];
+    let mut settled = [UNTOUCHED; MOST_BYTES];
+    let cubes_bytes = bytes_within(lent.cubes, &cubes);
+    let verdict_bytes = bytes_within(lent.verdict, &verdict);
+    let settled_bytes = bytes_within(lent.settled, &settled);
+    if cubes_bytes < lent.cubes || verdict_bytes < lent.verdict || settled_bytes < lent.settled {
+        too_large();
+        return;
+    }
+    show_run(
+        counts,
+        table,
+        w,
+        &mut cubes[..cubes_bytes],
+        &mut verdict[..verdict_bytes],
+        &mut settled[..settled_bytes],
+    );
+}
+
+fn run_given(counts: Counts, table: &[u16], words: usize, w: usize, lent: RunLent) {
+    let given = words_within(words, table);
+    if given < words {
+        too_large();
+        return;
+    }
+    run_lent(counts, &table[..given], w, lent);
+}
+
+fn run_vector(line: &[u8]) {
+    let mut table = [0u16; MOST_WORDS];
+    let circuit = circuit_at(line, 4, &mut table);
+    let w = vector::next(line, circuit.behind);
+    let cubes = vector::next(line, w);
+    let verdict = vector::next(line, cubes);
+    let settled = vector::next(line, verdict);
+    if !vector::ends(line, settled) {
+        not_a_vector();
+        return;
+    }
+    let lent = RunLent {
+        cubes: cubes.value,
+        verdict: verdict.value,
+        settled: settled.value,
+    };
+    let counts = circuit.counts;
+    run_given(counts, &table, circuit.words, w.value, lent);
+}
+
+// ---- the list
+
+// The counts, the length of the table, whose words go into the table that is lent, and where the line goes on.
+struct CircuitAt {
+    counts: Counts,
+    words: usize,
+    behind: Cursor,
+}
+
+fn circuit_at(line: &[u8], at: usize, table: &mut [u16]) -> CircuitAt {
+    let inputs = vector::number(line, at);
+    let latches = vector::next(line, inputs);
+    let lamps = vector::next(line, latches);
+    let gates = vector::next(line, lamps);
+    let words = vector::next(line, gates);
+    let behind = vector::words(line, words, table);
+    let counts = Counts {
+        inputs: inputs.value,
+        latches: latches.value,
+        lamps: lamps.value,
+        gates: gates.value,
+    };
+    CircuitAt {
+        counts: counts,
+        words: words.value,
+        behind: behind,
+    }
+}
+
+fn answer(line: &[u8]) {
+    if vector::opens(line, b"#") {
+        say(line);
+        say(b"\n");
+    } else if vector::opens(line, b"read ") {
+        read_vector(line);
+    } else if vector::opens(line, b"write ") {
+        write_vector(line);
+    } else if vector::opens(line, b"tick ") {
+        tick_vector(line);
+    } else if vector::opens(line, b"run ") {
+        run_vector(line);
+    } else {
+        not_a_vector();
+    }
+}
+
+fn replay(list: &[u8]) {
+    let mut at = 0;
+    while at < list.len() {
+        let end = vector::line_end(list, at);
+        answer(&list[at..end]);
+        at = end + 1;
+    }
+}
+
+// A list that fills the buffer may have more behind it, so it is not replayed in part.
+fn main() {
+    let mut list = [0u8; MOST_LIST];
+    let got = io::read_full(STDIN_FILENO, &mut list);
+    if got == MOST_LIST {
+        too_large();
+        return;
+    }
+    replay(&list[..got]);
+}

@@ -1,0 +1,3 @@
+pub mod Putting
+pub mod Rows
+pub mod Reporting

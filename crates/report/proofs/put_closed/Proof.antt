@@ -1,0 +1,32 @@
+-- `report::put_closed` meets its contract: the line on closure, the lamps and the latches, one behind the other. Assumes nothing.
+use native.Mathlib.Omega.{arith}
+use Rattle.text.proofs.Putting.{put-then}
+use borrow.Author.Needs.{needs}
+use Rattle.report.proofs.put_closed.Statement.{statement}
+use Rattle.report.proofs.put_closed.Tie as tie
+use Rattle.report.proofs.put_closing.Reads as put-closing-reads
+use Rattle.report.proofs.put_rows.Reads as put-rows-reads
+
+put-closing-requires : tie.Need-put-closing-requires
+put-closing-requires c κs = search needs
+
+put-rows-requires : tie.Need-put-rows-requires
+put-rows-requires c κs = search needs
+
+put-rows-requires-2 : tie.Need-put-rows-requires-2
+put-rows-requires-2 c κs = search needs
+
+same-length : tie.Need-same-length
+same-length c = search needs
+
+returns : tie.Need-returns
+returns c =
+    let latches = c .before .before in
+    let lamps = latches .before .before .before .before in
+    let closing = lamps .before .before .before .before in
+    (put-then (closing .put-closing .ensures .0) (put-then (lamps .put-rows .ensures .0) (latches .put-rows2 .ensures .0)), omega arith)
+
+pub put-closed-spec : {M : Type 1} → statement M
+put-closed-spec =
+    tie.close
+    (tie.spec put-closing-requires put-rows-requires put-rows-requires-2 same-length returns)

@@ -1,0 +1,74 @@
+-- The report (document 01, the report program): what is printed for the bytes on standard input. In a quoted text `/` stands for byte 10. Assumes nothing.
+use mathlib.Core.Path.{_≡_}
+use mathlib.Core.List.{List, [], _∷_, _++_}
+use Prim.Native.Nat.{ℕ, suc, _/_, _≤_}
+use lib.ListN.{length}
+use Rattle.three.specs.Lists.{over}
+use Rattle.three.specs.Value.{Three, unknown, low, high}
+use Rattle.three.specs.Cube.{Cube, knownFields}
+use Rattle.three.specs.Record.{bytesFor}
+use Rattle.circuit.specs.Circuit.{Circuit}
+use Rattle.circuit.specs.Table.{circuitOf}
+use Rattle.text.specs.Decimal.{decimal}
+use Rattle.text.specs.Outcome.{Outcome, accepted, refused}
+use Rattle.text.specs.Text.{Content, readText}
+use Rattle.text.specs.Bench.{bytes}
+use Rattle.run.specs.Run.{cubeAt, Outcome as Ending, closed, full, run, verdict, settled}
+use Rattle.report.specs.declared.Row.{Row}
+
+-- a name and its number
+unfoldable pub item : List ℕ → ℕ → List ℕ
+item name n = name ++ decimal n
+
+-- what is said of a field: of 0, of 1, and of X
+unfoldable pub said : List ℕ → List ℕ → List ℕ → Three → List ℕ
+said off on either low = off
+said off on either high = on
+said off on either unknown = either
+
+-- the line of lamp or latch number i
+unfoldable pub row : Row → ℕ → Three → List ℕ
+row Row.Lamp i v = item (bytes "lamp ") i ++ said (bytes " never/") (bytes " always/") (bytes " open/") v
+row Row.Latch i v = item (bytes "latch ") i ++ said (bytes " 0/") (bytes " 1/") (bytes " -/") v
+
+-- a line for each field, numbered from i on
+unfoldable pub rows : Row → ℕ → Cube → List ℕ
+rows r i [] = []
+rows r i (v ∷ vs) = row r i v ++ rows r (suc i) vs
+
+-- the line on closure
+unfoldable pub closing : ℕ → ℕ → ℕ → List ℕ
+closing n j s = item (bytes "cubes ") n ++ (item (bytes " back ") j ++ (item (bytes " settled ") s ++ bytes "/"))
+
+-- on a refusal the only line
+unfoldable pub refusing : ℕ → List ℕ
+refusing number = item (bytes "refused ") number ++ bytes "/"
+
+-- closure with n, j, s; then each lamp; then each latch
+unfoldable pub closedReport : ℕ → ℕ → Cube → Cube → List ℕ
+closedReport n j lamps latches = closing n j (knownFields latches) ++ (rows Row.Lamp 0 lamps ++ rows Row.Latch 0 latches)
+
+-- a circuit's run with w = 16
+unfoldable pub ended : Circuit → Ending → List ℕ
+ended c (closed n j) = closedReport n j (verdict c (cubeAt c 16) n) (settled (cubeAt c 16) n j)
+ended c full = refusing 15
+
+-- and a cube buffer of 65,536 bytes
+unfoldable pub runReport : Content → List ℕ
+runReport t =
+    let c : Circuit = circuitOf (t .counts) (t .words) in
+    ended c (run c 16 (65536 / bytesFor (t .counts .latches)))
+
+unfoldable pub reported : Outcome Content → List ℕ
+reported (accepted t) = runReport t
+reported (refused n) = refusing n
+
+-- the report on a text
+unfoldable pub reportOf : List ℕ → List ℕ
+reportOf text = reported (readText text)
+
+-- The contract of the report: how many bytes it has, and the buffer at exit; the bytes beyond stay.
+pub record Reported (text buffer : List ℕ) (bytes : ℕ) (buffer′ : List ℕ) : Type 0 where
+  pub returns : bytes ≡ length (reportOf text)
+  pub fills : buffer′ ≡ over (reportOf text) buffer
+  pub fits : bytes ≤ length buffer′

@@ -1,0 +1,183 @@
+// The report program (document 01): a circuit's text on standard input, the report on standard output.
+use circuit::Counts;
+use libc::STDIN_FILENO;
+use libc::STDOUT_FILENO;
+use run::RunAnswer;
+ghost use mathlib.Core.Path.{_≡_};
+ghost use mathlib.Core.List.{_++_};
+ghost use Prim.Native.Nat.{_+_, _*_, _≤_, _<_};
+ghost use lib.ListN.{length};
+ghost use Rattle.three.specs.Value.{decode};
+ghost use Rattle.three.specs.Record.{unpack};
+ghost use Rattle.text.specs.Written.{Put};
+ghost use Rattle.text.specs.Bench.{bytes};
+ghost use Rattle.report.specs.declared.Row.{Row};
+ghost use Rattle.report.specs.Report.{item, said, row as rowText, rows, closing, refusing, closedReport, Reported};
+
+// "takes w = 16 and a cube buffer of 65,536 bytes"
+const INTERVAL: usize = 16;
+
+const CUBE_BYTES: usize = 65536;
+
+// The table of any circuit fits: 2 × 512 + 64 + 2 × 3,327 words.
+const TABLE_WORDS: usize = 7742;
+
+// The report on any circuit fits: 100 bytes for the first line, 34 for each lamp and latch.
+const REPORT_BYTES: usize = 20000;
+
+// What a line of the report is about.
+enum Row {
+    Lamp,
+    Latch,
+}
+
+fn put_bytes(out: &mut [u8], at: usize, text: &[u8]) -> usize
+    requires { ⌜ at + length (now text) ≤ length (now out) ⌝ }
+    ensures { λ r. ⌜ Put (now (out .entry)) at (now (text .entry)) (now (out .exit)) r ⌝ }
+{
+    for i in 0..text.len() {
+        out[at + i] = text[i];
+    }
+    at + text.len()
+}
+
+// A name and its number, which has at most 20 digits.
+fn put_item(out: &mut [u8], at: usize, name: &[u8], n: usize) -> usize
+    requires { ⌜ at + length (now name) + 20 ≤ length (now out) ⌝ }
+    ensures { λ r. ⌜ Put (now (out .entry)) at (item (now (name .entry)) n) (now (out .exit)) r × (r ≤ at + length (now (name .entry)) + 20) ⌝ }
+{
+    let number = put_bytes(out, at, name);
+    text::put_number(out, number, n)
+}
+
+// What is said of a field: of 0, of 1, and of X.
+fn put_said(out: &mut [u8], at: usize, field: u8, off: &[u8], on: &[u8], either: &[u8]) -> usize
+    requires { ⌜ (at + length (now off) ≤ length (now out)) × (at + length (now on) ≤ length (now out)) × (at + length (now either) ≤ length (now out)) ⌝ }
+    ensures { λ r. ⌜ Put (now (out .entry)) at (said (now (off .entry)) (now (on .entry)) (now (either .entry)) (decode field)) (now (out .exit)) r ⌝ }
+{
+    if field == 0 {
+        return put_bytes(out, at, either);
+    }
+    if field == 1 {
+        return put_bytes(out, at, off);
+    }
+    put_bytes(out, at, on)
+}
+
+// "each lamp, numbered from 0, with never, always or open; then each latch, numbered from 0, with its settled value, 0 or 1, or `-`": the line of number i.
+fn put_row(out: &mut [u8], at: usize, row: Row, i: usize, field: u8) -> usize
+    requires { ⌜ at + 34 ≤ length (now out) ⌝ }
+    ensures { λ r. ⌜ Put (now (out .entry)) at (rowText row i (decode field)) (now (out .exit)) r × (r ≤ at + 34) ⌝ }
+{
+    match row {
+        Row::Lamp => {
+            let word = put_item(out, at, b"lamp ", i);
+            put_said(out, word, field, b" never\n", b" always\n", b" open\n")
+        }
+        Row::Latch => {
+            let word = put_item(out, at, b"latch ", i);
+            put_said(out, word, field, b" 0\n", b" 1\n", b" -\n")
+        }
+    }
+}
+
+// A line for each field of a record.
+fn put_rows(out: &mut [u8], start: usize, row: Row, fields: &[u8], count: usize) -> usize
+    requires { ⌜ (start + 34 * count ≤ length (now out)) × (count ≤ 4 * length (now fields)) ⌝ }
+    ensures { λ r. ⌜ Put (now (out .entry)) start (rows row 0 (unpack count (now (fields .entry)))) (now (out .exit)) r × (r ≤ start + 34 * count) ⌝ }
+{
+    let mut end = start;
+    for i in 0..count {
+        end = put_row(out, end, row, i, three::field(fields, i));
+    }
+    end
+}
+
+// "one line on closure with n, j, s"
+fn put_closing(out: &mut [u8], n: usize, j: usize, s: usize) -> usize
+    requires { ⌜ 100 ≤ length (now out) ⌝ }
+    ensures { λ r. ⌜ Put (now (out .entry)) 0 (closing n j s) (now (out .exit)) r × (r ≤ 100) ⌝ }
+{
+    let back = put_item(out, 0, b"cubes ", n);
+    let settled = put_item(out, back, b" back ", j);
+    let end = put_item(out, settled, b" settled ", s);
+    put_bytes(out, end, b"\n")
+}
+
+// "On a refusal its only line is `refused` and the number."
+fn put_refusal(out: &mut [u8], number: u32) -> usize
+    requires { ⌜ 100 ≤ length (now out) ⌝ }
+    ensures { λ r. ⌜ Put (now (out .entry)) 0 (refusing number) (now (out .exit)) r × (r ≤ length (now (out .entry))) ⌝ }
+{
+    let end = put_item(out, 0, b"refused ", number as usize);
+    put_bytes(out, end, b"\n")
+}
+
+// Closure; then each lamp; then each latch.
+fn put_closed(
+    out: &mut [u8],
+    counts: Counts,
+    answer: RunAnswer,
+    verdict: &[u8],
+    settled: &[u8],
+) -> usize
+    requires { ⌜ (100 + 34 * (counts .lamps) + 34 * (counts .latches) ≤ length (now out)) × (counts .lamps ≤ 4 * length (now verdict)) × (counts .latches ≤ 4 * length (now settled)) ⌝ }
+    ensures { λ r. ⌜ Put (now (out .entry)) 0 (closing (answer .cubes) (answer .back) (answer .settled) ++ (rows Row.Lamp 0 (unpack (counts .lamps) (now (verdict .entry))) ++ rows Row.Latch 0 (unpack (counts .latches) (now (settled .entry))))) (now (out .exit)) r × (r ≤ length (now (out .entry))) ⌝ }
+{
+    let lamps = put_closing(out, answer.cubes, answer.back, answer.settled);
+    let latches = put_rows(out, lamps, Row::Lamp, verdict, counts.lamps);
+    put_rows(out, latches, Row::Latch, settled, counts.latches)
+}
+
+// The report on a text, at the front of the buffer; how many bytes it has. Nothing is relied on: any text may be handed in.
+fn report(text: &[u8], out: &mut [u8; REPORT_BYTES]) -> usize
+    ensures { λ r. ⌜ Reported (now (text .entry)) (now (out .entry)) r (now (out .exit)) ⌝ }
+{
+    let mut table = [0u16; TABLE_WORDS];
+    let read = text::read(text, &mut table);
+    if read.number != 0 {
+        return put_refusal(out, read.number);
+    }
+    let counts = read.counts;
+    let mut cubes = [0u8; CUBE_BYTES];
+    let mut verdict = [0u8; 16];
+    let mut settled = [0u8; 128];
+    let answer = run::run(
+        counts,
+        &table,
+        INTERVAL,
+        &mut cubes,
+        &mut verdict,
+        &mut settled,
+    );
+    if answer.number != 0 {
+        return put_refusal(out, answer.number);
+    }
+    put_closed(out, counts, answer, &verdict, &settled)
+}
+
+// A piece of what is left on standard input; whether there was any.
+fn skip_some() -> bool {
+    let mut piece = io::buffer();
+    libc::read(STDIN_FILENO, &mut piece) > 0
+}
+
+// Everything that is left, so that whoever sends it can go on to its end. A proved loop has to end: this one counts down from a number that no input uses up.
+fn skip_rest() {
+    let mut turns = u64::MAX;
+    while turns > 0 && skip_some() {
+        turns -= 1;
+    }
+}
+
+// The first 65,536 bytes decide: a text that is longer is over 60,000 bytes.
+fn main() {
+    let mut input = io::large_buffer();
+    let size = io::read_full(STDIN_FILENO, &mut input);
+    if size == 65536 {
+        skip_rest();
+    }
+    let mut out = [0u8; REPORT_BYTES];
+    let bytes = report(&input[..size], &mut out);
+    io::write_all(STDOUT_FILENO, &out[..bytes]);
+}

@@ -1,0 +1,498 @@
+/* The benchmark: each call of the library beside the same call in plain C (plain.h), in one process and by turns.
+ *
+ *   bench [ROUNDS]
+ *
+ * First both sides answer the same requests, accepted and refused; a difference ends it with status 1. Then it prints,
+ * for each call and each of three circuits, the best time of ROUNDS rounds on each side, the ratio library / plain, and
+ * by what both grow from one circuit to the next. The circuits come from a fixed seed: every run measures the same.
+ * plain.c is to be compiled with -O3, as the library is, and for any x86-64. */
+#define _POSIX_C_SOURCE 200809L
+
+#include "chudravik.h"
+#include "plain.h"
+
+#include <stdbool.h>
+#include <stdio.h>
+#include <stdlib.h>
+#include <string.h>
+#include <time.h>
+
+enum { INTERVAL = 16, DEFAULT_ROUNDS = 25, MOST_ROUNDS = 10000, POISON = 0xA5 };
+
+static const double LEAST_NANOSECONDS = 4e6; /* of one round */
+
+/* ---- circuits ---- */
+
+/* A random circuit with a binary counter at its front, and behind it a row of latches that takes in a 1 from its front:
+ * the one is widened away early in a run, the other gives a cube for each of its latches. */
+typedef struct {
+    const char *name;
+    chudravik_counts counts;
+    size_t counter;
+    size_t row;
+} plan;
+
+static const plan PLANS[] = {
+    {"small", {1, 4, 2, 14}, 4, 0},
+    {"middle", {20, 100, 16, 500}, 5, 70},
+    {"largest", {256, 512, 64, 3327}, 6, 300},
+};
+
+enum { CIRCUITS = sizeof PLANS / sizeof PLANS[0] };
+
+/* What the calls are given: a circuit in words and as text, a state and a switch setting, w and the lengths. */
+typedef struct {
+    chudravik_counts counts;
+    uint16_t table[CHUDRAVIK_MOST_TABLE_WORDS];
+    size_t table_words;
+    uint8_t text[CHUDRAVIK_MOST_TEXT + 1];
+    size_t text_bytes;
+    size_t text_room;
+    uint8_t state[CHUDRAVIK_RECORD_BYTES(CHUDRAVIK_MOST_LATCHES)];
+    size_t state_bytes;
+    uint8_t switches[CHUDRAVIK_RECORD_BYTES(CHUDRAVIK_MOST_INPUTS)];
+    size_t switches_bytes;
+    size_t w;
+    size_t cubes_bytes;
+    size_t verdict_bytes;
+    size_t settled_bytes;
+} request;
+
+static uint64_t seed = 0x2545F4914F6CDD1D;
+
+static size_t random_below(size_t bound)
+{
+    seed ^= seed << 13;
+    seed ^= seed >> 7;
+    seed ^= seed << 17;
+    return (size_t)((seed >> 16) % bound);
+}
+
+static uint16_t inverse(uint16_t literal)
+{
+    return literal ^ 1;
+}
+
+/* The words of a circuit under construction, gate after gate. */
+typedef struct {
+    uint16_t *latches;
+    uint16_t *lamps;
+    uint16_t *gates;
+    size_t first_latch;
+    size_t first_gate;
+    size_t gate_count;
+} builder;
+
+static uint16_t latch_literal(const builder *b, size_t i)
+{
+    return (uint16_t)(2 * (b->first_latch + i));
+}
+
+static uint16_t add_gate(builder *b, uint16_t left, uint16_t right)
+{
+    size_t i = b->gate_count++;
+    b->gates[2 * i] = left;
+    b->gates[2 * i + 1] = right;
+    return (uint16_t)(2 * (b->first_gate + i));
+}
+
+static void set_latch(builder *b, size_t i, uint16_t next, uint16_t reset)
+{
+    b->latches[2 * i] = next;
+    b->latches[2 * i + 1] = reset;
+}
+
+/* Each latch is inverted when all before it are 1. */
+static void add_counter(builder *b, size_t latches)
+{
+    uint16_t carry = 1;
+    for (size_t i = 0; i < latches; i++) {
+        uint16_t own = latch_literal(b, i);
+        uint16_t both = add_gate(b, own, carry);
+        uint16_t neither = add_gate(b, inverse(own), inverse(carry));
+        set_latch(b, i, add_gate(b, inverse(both), inverse(neither)), 0);
+        carry = both;
+    }
+}
+
+static void add_row(builder *b, size_t first, size_t latches)
+{
+    for (size_t i = first; i < first + latches; i++) {
+        set_latch(b, i, i == first ? 1 : latch_literal(b, i - 1), 0);
+    }
+}
+
+static void add_random_gates(builder *b, size_t gates)
+{
+    while (b->gate_count < gates) {
+        size_t own = 2 * (b->first_gate + b->gate_count);
+        add_gate(b, (uint16_t)random_below(own), (uint16_t)random_below(own));
+    }
+}
+
+static void make_table(const plan *p, uint16_t *table)
+{
+    const chudravik_counts *c = &p->counts;
+    builder b = {table, table + 2 * c->latches, table + 2 * c->latches + c->lamps, 1 + c->inputs,
+                 1 + c->inputs + c->latches, 0};
+    size_t literals = 2 * (1 + c->inputs + c->latches + c->gates);
+    add_counter(&b, p->counter);
+    add_row(&b, p->counter, p->row);
+    add_random_gates(&b, c->gates);
+    for (size_t i = p->counter + p->row; i < c->latches; i++) {
+        set_latch(&b, i, (uint16_t)random_below(literals), (uint16_t)random_below(2));
+    }
+    for (size_t i = 0; i < c->lamps; i++) {
+        b.lamps[i] = (uint16_t)random_below(literals);
+    }
+}
+
+static void make_record(uint8_t *record, size_t fields)
+{
+    memset(record, 0, CHUDRAVIK_RECORD_BYTES(fields));
+    for (size_t i = 0; i < fields; i++) {
+        record[i / 4] |= (uint8_t)(random_below(3) << (6 - 2 * (i % 4)));
+    }
+}
+
+static void make_request(const plan *p, request *r)
+{
+    memset(r, 0, sizeof *r);
+    r->counts = p->counts;
+    make_table(p, r->table);
+    make_record(r->state, p->counts.latches);
+    make_record(r->switches, p->counts.inputs);
+    r->table_words = CHUDRAVIK_MOST_TABLE_WORDS;
+    r->text_room = CHUDRAVIK_MOST_WRITTEN;
+    r->state_bytes = sizeof r->state;
+    r->switches_bytes = sizeof r->switches;
+    r->w = INTERVAL;
+    r->cubes_bytes = CHUDRAVIK_MOST_CUBE_BYTES;
+    r->verdict_bytes = CHUDRAVIK_RECORD_BYTES(CHUDRAVIK_MOST_LAMPS);
+    r->settled_bytes = CHUDRAVIK_RECORD_BYTES(CHUDRAVIK_MOST_LATCHES);
+    r->text_bytes = chudravik_write(r->counts, r->table, r->table_words, r->text, r->text_room).bytes;
+}
+
+/* ---- the two sides ---- */
+
+/* What the calls are lent. One byte more than any call accepts stands behind the cubes, for the refusal of it. */
+typedef struct {
+    uint16_t table[CHUDRAVIK_MOST_TABLE_WORDS];
+    uint8_t text[CHUDRAVIK_MOST_WRITTEN];
+    uint8_t next[CHUDRAVIK_RECORD_BYTES(CHUDRAVIK_MOST_LATCHES)];
+    uint8_t lamps[CHUDRAVIK_RECORD_BYTES(CHUDRAVIK_MOST_LAMPS)];
+    uint8_t cubes[CHUDRAVIK_MOST_CUBE_BYTES + 1];
+    uint8_t verdict[CHUDRAVIK_RECORD_BYTES(CHUDRAVIK_MOST_LAMPS)];
+    uint8_t settled[CHUDRAVIK_RECORD_BYTES(CHUDRAVIK_MOST_LATCHES)];
+} buffers;
+
+/* What a call answers, in the order of its struct. */
+typedef struct {
+    size_t numbers[5];
+} answer;
+
+typedef answer call(const request *, buffers *);
+
+static answer of_read(chudravik_read_answer a)
+{
+    return (answer){{a.number, a.counts.inputs, a.counts.latches, a.counts.lamps, a.counts.gates}};
+}
+
+static answer of_write(chudravik_write_answer a)
+{
+    return (answer){{a.number, a.bytes}};
+}
+
+static answer of_tick(uint32_t number)
+{
+    return (answer){{number}};
+}
+
+static answer of_run(chudravik_run_answer a)
+{
+    return (answer){{a.number, a.cubes, a.back, a.settled}};
+}
+
+#define READ(side, r, b) of_read(side##_read(r->text, r->text_bytes, b->table, r->table_words))
+#define WRITE(side, r, b) of_write(side##_write(r->counts, r->table, r->table_words, b->text, r->text_room))
+#define TICK(side, r, b)                                                                                        \
+    of_tick(side##_tick(r->counts, r->table, r->table_words, r->state, r->state_bytes, r->switches,             \
+                        r->switches_bytes, b->next, r->settled_bytes, b->lamps, r->verdict_bytes))
+#define RUN(side, r, b)                                                                                         \
+    of_run(side##_run(r->counts, r->table, r->table_words, r->w, b->cubes, r->cubes_bytes, b->verdict,          \
+                      r->verdict_bytes, b->settled, r->settled_bytes))
+#define SIDE(name, CALL, side)                                                                                  \
+    static answer name(const request *r, buffers *b)                                                            \
+    {                                                                                                           \
+        return CALL(side, r, b);                                                                                \
+    }
+
+SIDE(library_read, READ, chudravik)
+SIDE(library_write, WRITE, chudravik)
+SIDE(library_tick, TICK, chudravik)
+SIDE(library_run, RUN, chudravik)
+SIDE(c_read, READ, plain)
+SIDE(c_write, WRITE, plain)
+SIDE(c_tick, TICK, plain)
+SIDE(c_run, RUN, plain)
+
+typedef struct {
+    const char *name;
+    call *library;
+    call *plain;
+} pair;
+
+static const pair READING = {"read", library_read, c_read};
+static const pair WRITING = {"write", library_write, c_write};
+static const pair TICKING = {"tick", library_tick, c_tick};
+static const pair RUNNING = {"run", library_run, c_run};
+
+/* ---- equal answers ---- */
+
+static buffers library_lent;
+static buffers plain_lent;
+
+/* The answer that both sides give, with equal bytes in all that they are lent. */
+static answer expect(const pair *p, const request *r, uint32_t number)
+{
+    memset(&library_lent, POISON, sizeof library_lent);
+    memset(&plain_lent, POISON, sizeof plain_lent);
+    answer library = p->library(r, &library_lent);
+    answer plain = p->plain(r, &plain_lent);
+    if (memcmp(&library, &plain, sizeof library) != 0) {
+        fprintf(stderr, "%s: library %zu, plain %zu, or what stands beside it\n", p->name, library.numbers[0],
+                plain.numbers[0]);
+        exit(1);
+    }
+    if (memcmp(&library_lent, &plain_lent, sizeof library_lent) != 0) {
+        fprintf(stderr, "%s: other bytes after number %zu\n", p->name, library.numbers[0]);
+        exit(1);
+    }
+    if (library.numbers[0] != number) {
+        fprintf(stderr, "%s: number %zu, due %u\n", p->name, library.numbers[0], (unsigned)number);
+        exit(1);
+    }
+    return library;
+}
+
+static void expect_text(request *r, const char *text, uint32_t number)
+{
+    r->text_bytes = strlen(text);
+    memcpy(r->text, text, r->text_bytes);
+    expect(&READING, r, number);
+}
+
+static void check_texts(const request *sound)
+{
+    static request r;
+    r = *sound;
+    r.text_bytes = CHUDRAVIK_MOST_TEXT + 1;
+    expect(&READING, &r, CHUDRAVIK_TEXT_TOO_LONG);
+    r = *sound;
+    r.table_words = 0;
+    expect(&READING, &r, CHUDRAVIK_TOO_SHORT);
+    r = *sound;
+    expect_text(&r, "aag 0 0 0 0\n", CHUDRAVIK_FIRST_LINE);
+    expect_text(&r, "aag 257 257 0 0 0\n", CHUDRAVIK_COUNTS);
+    expect_text(&r, "aag 1 1 0 0 0\n", CHUDRAVIK_BODY_LINE);
+    expect_text(&r, "aag 1 1 0 0 0\n02\n", CHUDRAVIK_BODY_LINE);
+    expect_text(&r, "aag 1 1 0 0 0\n4\n", CHUDRAVIK_OWN_LITERAL);
+    expect_text(&r, "aag 2 1 0 0 1\n2\n4 6 2\n", CHUDRAVIK_LITERAL_TOO_LARGE);
+    expect_text(&r, "aag 2 1 0 0 1\n2\n4 4 2\n", CHUDRAVIK_OPERAND_NOT_BELOW);
+    expect_text(&r, "aag 1 0 1 0 0\n2 2 2\n", CHUDRAVIK_RESET);
+    expect_text(&r, "aag 0 0 0 0 0\ncc\n", CHUDRAVIK_TRAILING);
+    expect_text(&r, "aag 0 0 0 0 0\nc\n", CHUDRAVIK_ACCEPTED);
+    expect_text(&r, "aag 0 0 0 0 0\nc", CHUDRAVIK_TRAILING); /* the newline still stands behind it */
+}
+
+/* The refusals of every call that is given a circuit. */
+static void check_circuits(const request *sound)
+{
+    static const pair *const GIVEN[] = {&WRITING, &TICKING, &RUNNING};
+    static request r;
+    for (size_t i = 0; i < sizeof GIVEN / sizeof GIVEN[0]; i++) {
+        r = *sound;
+        r.counts.gates = SIZE_MAX;
+        expect(GIVEN[i], &r, CHUDRAVIK_COUNTS);
+        r = *sound;
+        r.table_words = CHUDRAVIK_TABLE_WORDS(r.counts.latches, r.counts.lamps, r.counts.gates) - 1;
+        expect(GIVEN[i], &r, CHUDRAVIK_TOO_SHORT);
+        r = *sound;
+        r.table[1] = 2;
+        expect(GIVEN[i], &r, CHUDRAVIK_TABLE);
+    }
+}
+
+static void check_lengths(const request *sound)
+{
+    static request r;
+    r = *sound;
+    r.text_room = r.text_bytes - 1;
+    expect(&WRITING, &r, CHUDRAVIK_TOO_SHORT);
+    r = *sound;
+    r.state_bytes = 0;
+    expect(&TICKING, &r, CHUDRAVIK_TOO_SHORT);
+    r = *sound;
+    r.settled_bytes = 0;
+    expect(&TICKING, &r, CHUDRAVIK_TOO_SHORT);
+    expect(&RUNNING, &r, CHUDRAVIK_TOO_SHORT);
+    r.cubes_bytes = 0;
+    expect(&RUNNING, &r, CHUDRAVIK_CUBE_BUFFER);
+    r.cubes_bytes = CHUDRAVIK_MOST_CUBE_BYTES + 1;
+    expect(&RUNNING, &r, CHUDRAVIK_CUBE_BUFFER);
+    r.w = CHUDRAVIK_MOST_INTERVAL + 1;
+    expect(&RUNNING, &r, CHUDRAVIK_INTERVAL);
+    r = *sound;
+    r.cubes_bytes = 3 * CHUDRAVIK_RECORD_BYTES(r.counts.latches);
+    expect(&RUNNING, &r, CHUDRAVIK_NO_ROOM);
+}
+
+static void check_records(const request *sound)
+{
+    static request r;
+    r = *sound;
+    r.state[0] |= 0xC0;
+    expect(&TICKING, &r, CHUDRAVIK_RECORD);
+    r = *sound;
+    r.switches[0] |= 0x01; /* a leftover bit of one switch */
+    expect(&TICKING, &r, CHUDRAVIK_RECORD);
+}
+
+/* ---- times ---- */
+
+static double now(void)
+{
+    struct timespec t;
+    clock_gettime(CLOCK_MONOTONIC, &t);
+    return 1e9 * (double)t.tv_sec + (double)t.tv_nsec;
+}
+
+static double nanoseconds(call *f, const request *r, buffers *b, size_t repeats)
+{
+    double start = now();
+    for (size_t i = 0; i < repeats; i++) {
+        f(r, b);
+    }
+    return now() - start;
+}
+
+/* How often a call has to be repeated for a round that the clock can measure. */
+static size_t repeats_for(call *f, const request *r, buffers *b)
+{
+    size_t repeats = 1;
+    while (nanoseconds(f, r, b, repeats) < LEAST_NANOSECONDS) {
+        repeats *= 2;
+    }
+    return repeats;
+}
+
+typedef struct {
+    double library;
+    double plain;
+} times;
+
+static double lower(double a, double b)
+{
+    return a < b ? a : b;
+}
+
+static times measure(const pair *p, const request *r, size_t rounds)
+{
+    times best = {1e300, 1e300};
+    size_t repeats = repeats_for(p->library, r, &library_lent);
+    for (size_t i = 0; i < rounds; i++) {
+        best.library = lower(best.library, nanoseconds(p->library, r, &library_lent, repeats));
+        best.plain = lower(best.plain, nanoseconds(p->plain, r, &plain_lent, repeats));
+    }
+    return (times){best.library / (double)repeats, best.plain / (double)repeats};
+}
+
+/* ---- the report ---- */
+
+static request requests[CIRCUITS];
+static answer runs[CIRCUITS];
+
+/* What a call goes over, by which its growth can be judged. */
+static double bytes_of_text(size_t i)
+{
+    return (double)requests[i].text_bytes;
+}
+
+static double words_of_table(size_t i)
+{
+    const chudravik_counts *c = &requests[i].counts;
+    return (double)CHUDRAVIK_TABLE_WORDS(c->latches, c->lamps, c->gates);
+}
+
+static double words_times_cubes(size_t i)
+{
+    return words_of_table(i) * (double)runs[i].numbers[1];
+}
+
+static void print_circuit(size_t i)
+{
+    const chudravik_counts *c = &requests[i].counts;
+    const size_t *run = runs[i].numbers;
+    printf("%-8s I %zu, L %zu, O %zu, A %zu; text of %zu bytes; run with w = %d: n %zu, j %zu, s %zu\n", PLANS[i].name,
+           c->inputs, c->latches, c->lamps, c->gates, requests[i].text_bytes, INTERVAL, run[1], run[2], run[3]);
+}
+
+static void check_all(void)
+{
+    for (size_t i = 0; i < CIRCUITS; i++) {
+        make_request(&PLANS[i], &requests[i]);
+        expect(&READING, &requests[i], CHUDRAVIK_ACCEPTED);
+        expect(&WRITING, &requests[i], CHUDRAVIK_ACCEPTED);
+        expect(&TICKING, &requests[i], CHUDRAVIK_ACCEPTED);
+        runs[i] = expect(&RUNNING, &requests[i], CHUDRAVIK_ACCEPTED);
+        print_circuit(i);
+    }
+    check_texts(&requests[0]);
+    check_circuits(&requests[0]);
+    check_lengths(&requests[0]);
+    check_records(&requests[0]);
+    printf("equal answers and bytes from both sides\n\n");
+}
+
+static void report(const pair *p, double (*work)(size_t), const char *of, size_t rounds)
+{
+    times before = {0, 0};
+    for (size_t i = 0; i < CIRCUITS; i++) {
+        times t = measure(p, &requests[i], rounds);
+        printf("%-6s %-8s %12.1f %12.1f %7.3f", p->name, PLANS[i].name, t.library, t.plain, t.library / t.plain);
+        if (i > 0) {
+            printf("   x%-8.1f x%-8.1f x%.1f %s", t.library / before.library, t.plain / before.plain,
+                   work(i) / work(i - 1), of);
+        }
+        printf("\n");
+        fflush(stdout);
+        before = t;
+    }
+}
+
+static size_t rounds_from(int argc, char **argv)
+{
+    if (argc < 2) {
+        return DEFAULT_ROUNDS;
+    }
+    char *end;
+    unsigned long rounds = strtoul(argv[1], &end, 10);
+    if (argc > 2 || *end != '\0' || rounds < 1 || rounds > MOST_ROUNDS) {
+        fprintf(stderr, "usage: bench [ROUNDS], 1 to %d\n", MOST_ROUNDS);
+        exit(2);
+    }
+    return rounds;
+}
+
+int main(int argc, char **argv)
+{
+    size_t rounds = rounds_from(argc, argv);
+    check_all();
+    printf("best of %zu rounds, in nanoseconds; growth from the circuit above\n", rounds);
+    printf("call   circuit       library        plain   ratio   library   plain     of what it goes over\n");
+    report(&READING, bytes_of_text, "bytes of text", rounds);
+    report(&WRITING, bytes_of_text, "bytes of text", rounds);
+    report(&TICKING, words_of_table, "words of table", rounds);
+    report(&RUNNING, words_times_cubes, "words x cubes", rounds);
+    return 0;
+}

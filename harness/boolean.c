@@ -1,0 +1,589 @@
+/* No verdict is contradicted by random Boolean simulation: boolean TICKS [SEED] [FILE..]
+ *
+ * Reads the given circuits and random ones of its own, runs each with several intervals and buffers, and where a run is
+ * closed lets 64 executions of the circuit go in plain Booleans, with random switches. At each tick t the lamps must
+ * agree with the verdict, from tick j on the latches with the settled record, and the state must lie inside cube t, or
+ * from tick n on inside cube j + (t - j) mod (n - j). TICKS is how many ticks are done at least, each execution's
+ * counted; half of them go to the files. Exits 1, with the circuit's text, on a contradiction; and where TICKS is a
+ * million or more, if too few verdicts came up to mean anything.
+ *
+ * An answer that is weaker than it might be (open in place of never) contradicts nothing, and is not found here. */
+#include <ctype.h>
+#include <inttypes.h>
+#include <stdio.h>
+#include <stdlib.h>
+#include <string.h>
+
+#include "chudravik.h"
+
+enum { EXECUTIONS = 64, RUNS = 4, HINTS = 64, MANY_TICKS = 1000000, LEAST_OF_A_KIND = 100 };
+
+static const size_t intervals[RUNS] = {0, 1, 2, 16};
+
+struct circuit {
+    chudravik_counts counts;
+    size_t words;
+    uint16_t table[CHUDRAVIK_MOST_TABLE_WORDS];
+    size_t text_bytes;
+    uint8_t text[CHUDRAVIK_MOST_TEXT + 1];
+};
+
+struct run {
+    size_t w;
+    size_t cubes_bytes;
+    chudravik_run_answer answer;
+    uint8_t cubes[CHUDRAVIK_MOST_CUBE_BYTES];
+    uint8_t verdict[CHUDRAVIK_RECORD_BYTES(CHUDRAVIK_MOST_LAMPS)];
+    uint8_t settled[CHUDRAVIK_RECORD_BYTES(CHUDRAVIK_MOST_LATCHES)];
+};
+
+static struct {
+    uint64_t circuits, files, runs, closed, no_room, never, always, open, open_seen_both, settled, ticks;
+} sum;
+
+static struct circuit circuit;
+static struct run runs[RUNS];
+
+/* ---- chance ---- */
+
+static uint64_t chance;
+
+/* Marsaglia's xorshift; the state is never 0. */
+static uint64_t random_word(void)
+{
+    chance ^= chance << 13;
+    chance ^= chance >> 7;
+    chance ^= chance << 17;
+    return chance;
+}
+
+static void seed_chance(uint64_t seed)
+{
+    chance = 2 * seed + 1;
+    for (int i = 0; i < 64; i++)
+        random_word();
+}
+
+static size_t below(size_t bound)
+{
+    return (size_t)((random_word() >> 20) % bound);
+}
+
+static int one_in(size_t bound)
+{
+    return below(bound) == 0;
+}
+
+/* ---- failure ---- */
+
+static _Noreturn void fail(const char *who, const char *what, uint32_t number)
+{
+    fprintf(stderr, "boolean: %s: %s (%" PRIu32 ")\n", who, what, number);
+    fwrite(circuit.text, 1, circuit.text_bytes, stderr);
+    exit(1);
+}
+
+static _Noreturn void contradicted(const struct run *run, const char *what, uint64_t t, uint64_t strays)
+{
+    int execution = 0;
+    while (execution < EXECUTIONS - 1 && (strays >> execution & 1) == 0)
+        execution++;
+    fprintf(stderr, "boolean: %s contradicted at tick %" PRIu64 " by execution %d (w %zu, n %zu, j %zu, s %zu)\n", what,
+            t, execution, run->w, run->answer.cubes, run->answer.back, run->answer.settled);
+    fwrite(circuit.text, 1, circuit.text_bytes, stderr);
+    exit(1);
+}
+
+/* ---- the circuit in plain Booleans: bit e of a word is the value in execution e ---- */
+
+static uint64_t value[CHUDRAVIK_MOST_VARIABLES + 1];
+static uint64_t lamps[CHUDRAVIK_MOST_LAMPS];
+static uint64_t *const switches = value + 1;
+
+static uint64_t value_of(uint16_t literal)
+{
+    return value[literal >> 1] ^ (literal & 1 ? UINT64_MAX : 0);
+}
+
+static uint64_t *state(void)
+{
+    return value + 1 + circuit.counts.inputs;
+}
+
+static void start(void)
+{
+    for (size_t i = 0; i < circuit.counts.inputs; i++)
+        switches[i] = 0;
+    for (size_t i = 0; i < circuit.counts.latches; i++)
+        state()[i] = circuit.table[2 * i + 1] ? UINT64_MAX : 0;
+}
+
+/* A quarter of the executions have their switches by even chance, one mostly off, one mostly on, one seldom moved. */
+static void move_switches(void)
+{
+    static const uint64_t even = 0x1111111111111111, off = even << 1, on = even << 2, slow = even << 3;
+    for (size_t i = 0; i < circuit.counts.inputs; i++) {
+        uint64_t a = random_word(), b = random_word(), c = random_word();
+        switches[i] = (a & even) | (a & b & c & off) | ((a | b | c) & on) | ((switches[i] ^ (a & b & c)) & slow);
+    }
+}
+
+static void pass_gates(void)
+{
+    const uint16_t *lamp = circuit.table + 2 * circuit.counts.latches;
+    const uint16_t *operand = lamp + circuit.counts.lamps;
+    uint64_t *gate = state() + circuit.counts.latches;
+    for (size_t i = 0; i < circuit.counts.gates; i++)
+        gate[i] = value_of(operand[2 * i]) & value_of(operand[2 * i + 1]);
+    for (size_t i = 0; i < circuit.counts.lamps; i++)
+        lamps[i] = value_of(lamp[i]);
+}
+
+static void tick(void)
+{
+    uint64_t next[CHUDRAVIK_MOST_LATCHES];
+    for (size_t i = 0; i < circuit.counts.latches; i++)
+        next[i] = value_of(circuit.table[2 * i]);
+    memcpy(state(), next, circuit.counts.latches * sizeof next[0]);
+}
+
+/* ---- the promises of a closed run ---- */
+
+/* The executions whose values lie outside the record: all of them where it has the pair 11. */
+static uint64_t outside(const uint8_t *record, const uint64_t *values, size_t fields)
+{
+    static const uint64_t not_high[4] = {0, UINT64_MAX, 0, UINT64_MAX};
+    static const uint64_t not_low[4] = {0, 0, UINT64_MAX, UINT64_MAX};
+    uint64_t strays = 0;
+    for (size_t i = 0; i < fields; i++) {
+        unsigned field = CHUDRAVIK_FIELD(record, i);
+        strays |= (values[i] & not_high[field]) | (~values[i] & not_low[field]);
+    }
+    return strays;
+}
+
+static size_t cube_of_tick(chudravik_run_answer answer, uint64_t t)
+{
+    if (t < answer.cubes)
+        return (size_t)t;
+    return answer.back + (size_t)((t - answer.back) % (answer.cubes - answer.back));
+}
+
+static void check_tick(const struct run *run, uint64_t t)
+{
+    size_t latches = circuit.counts.latches;
+    const uint8_t *cube = run->cubes + cube_of_tick(run->answer, t) * CHUDRAVIK_RECORD_BYTES(latches);
+    uint64_t strays = outside(cube, state(), latches);
+    if (strays)
+        contradicted(run, "cube", t, strays);
+    strays = outside(run->verdict, lamps, circuit.counts.lamps);
+    if (strays)
+        contradicted(run, "verdict", t, strays);
+    strays = t < run->answer.back ? 0 : outside(run->settled, state(), latches);
+    if (strays)
+        contradicted(run, "settled record", t, strays);
+}
+
+static int is_closed(const struct run *run)
+{
+    return run->answer.number == CHUDRAVIK_ACCEPTED;
+}
+
+static void simulate(uint64_t ticks, uint64_t *seen_lit, uint64_t *seen_dark)
+{
+    start();
+    for (uint64_t t = 0; t < ticks; t++) {
+        move_switches();
+        pass_gates();
+        for (size_t i = 0; i < circuit.counts.lamps; i++) {
+            seen_lit[i] |= lamps[i];
+            seen_dark[i] |= ~lamps[i];
+        }
+        for (size_t r = 0; r < RUNS; r++)
+            if (is_closed(&runs[r]))
+                check_tick(&runs[r], t);
+        tick();
+    }
+    sum.ticks += ticks * EXECUTIONS;
+}
+
+/* ---- runs ---- */
+
+static size_t promised_bytes(size_t w)
+{
+    return (w * circuit.counts.latches + 1) * CHUDRAVIK_RECORD_BYTES(circuit.counts.latches);
+}
+
+/* Without widening a run may take many cubes, and its search the square of that: the full buffer is seldom lent. */
+static size_t choose_cubes_bytes(size_t w)
+{
+    size_t record = CHUDRAVIK_RECORD_BYTES(circuit.counts.latches);
+    if (w != 0 && promised_bytes(w) <= CHUDRAVIK_MOST_CUBE_BYTES && one_in(3))
+        return promised_bytes(w);
+    if (one_in(w == 0 ? 64 : 2))
+        return CHUDRAVIK_MOST_CUBE_BYTES;
+    return record + below(250 * record);
+}
+
+static size_t known_fields(const uint8_t *record, size_t fields)
+{
+    size_t known = 0;
+    for (size_t i = 0; i < fields; i++)
+        known += CHUDRAVIK_FIELD(record, i) != CHUDRAVIK_UNKNOWN;
+    return known;
+}
+
+static void check_answer(const struct run *run)
+{
+    chudravik_run_answer answer = run->answer;
+    size_t room = run->cubes_bytes / CHUDRAVIK_RECORD_BYTES(circuit.counts.latches);
+    if (answer.number != CHUDRAVIK_ACCEPTED && answer.number != CHUDRAVIK_NO_ROOM)
+        fail("run", "refused", answer.number);
+    if (answer.number == CHUDRAVIK_NO_ROOM && run->w != 0 && promised_bytes(run->w) <= run->cubes_bytes)
+        fail("run", "not closed within w x latches + 1 cubes", answer.number);
+    if (!is_closed(run))
+        return;
+    if (answer.back >= answer.cubes || answer.cubes > room)
+        fail("run", "closed with n and j that cannot be", answer.number);
+    if (answer.settled != known_fields(run->settled, circuit.counts.latches))
+        fail("run", "s is not the count of the settled record", answer.number);
+}
+
+static void do_run(struct run *run, size_t w)
+{
+    run->w = w;
+    run->cubes_bytes = choose_cubes_bytes(w);
+    run->answer = chudravik_run(circuit.counts, circuit.table, circuit.words, w, run->cubes, run->cubes_bytes,
+                                run->verdict, sizeof run->verdict, run->settled, sizeof run->settled);
+    check_answer(run);
+    sum.runs++;
+    sum.closed += is_closed(run);
+    sum.no_room += !is_closed(run);
+}
+
+static void count_checked(const struct run *run, const uint64_t *seen_lit, const uint64_t *seen_dark)
+{
+    for (size_t i = 0; i < circuit.counts.lamps; i++) {
+        unsigned field = CHUDRAVIK_FIELD(run->verdict, i);
+        sum.never += field == CHUDRAVIK_LOW;
+        sum.always += field == CHUDRAVIK_HIGH;
+        sum.open += field == CHUDRAVIK_UNKNOWN;
+        sum.open_seen_both += field == CHUDRAVIK_UNKNOWN && seen_lit[i] && seen_dark[i];
+    }
+    sum.settled += run->answer.settled;
+}
+
+/* Goes at least twice through the longest closed run, so that each cube of its round is met again. */
+static void examine(uint64_t least_ticks)
+{
+    uint64_t seen_lit[CHUDRAVIK_MOST_LAMPS] = {0}, seen_dark[CHUDRAVIK_MOST_LAMPS] = {0};
+    uint64_t longest = 0;
+    sum.circuits++;
+    for (size_t r = 0; r < RUNS; r++) {
+        do_run(&runs[r], intervals[r]);
+        if (is_closed(&runs[r]) && runs[r].answer.cubes > longest)
+            longest = runs[r].answer.cubes;
+    }
+    if (longest == 0)
+        return;
+    uint64_t ticks = 2 * longest + 64;
+    simulate(ticks < least_ticks ? least_ticks : ticks, seen_lit, seen_dark);
+    for (size_t r = 0; r < RUNS; r++)
+        if (is_closed(&runs[r]))
+            count_checked(&runs[r], seen_lit, seen_dark);
+}
+
+static void read_circuit(const char *who)
+{
+    chudravik_read_answer answer =
+        chudravik_read(circuit.text, circuit.text_bytes, circuit.table, CHUDRAVIK_MOST_TABLE_WORDS);
+    if (answer.number != CHUDRAVIK_ACCEPTED)
+        fail(who, "refused by the reader", answer.number);
+    circuit.counts = answer.counts;
+    circuit.words = CHUDRAVIK_TABLE_WORDS(answer.counts.latches, answer.counts.lamps, answer.counts.gates);
+}
+
+/* ---- random circuits: pieces that pupils draw, wired together at random ---- */
+
+/* Hints are literals that are worth a lamp: what the piece is built never, or always, to do. */
+static struct {
+    chudravik_counts counts;
+    uint16_t next[CHUDRAVIK_MOST_LATCHES], reset[CHUDRAVIK_MOST_LATCHES], lamp[CHUDRAVIK_MOST_LAMPS];
+    uint16_t operand[CHUDRAVIK_MOST_GATES][2];
+    uint16_t hint[HINTS];
+    size_t hints;
+} draft;
+
+static uint16_t latch(size_t i)
+{
+    return (uint16_t)(2 * (1 + draft.counts.inputs + i));
+}
+
+static uint16_t any_literal(void)
+{
+    return (uint16_t)below(2 * (1 + draft.counts.inputs + draft.counts.latches + draft.counts.gates));
+}
+
+static void hint(uint16_t literal)
+{
+    if (draft.hints < HINTS)
+        draft.hint[draft.hints++] = literal;
+}
+
+/* A full draft answers the constant 0: still a circuit, and pieces need no care. */
+static uint16_t both(uint16_t a, uint16_t b)
+{
+    if (draft.counts.gates == CHUDRAVIK_MOST_GATES)
+        return 0;
+    size_t gate = draft.counts.gates++, first = below(2);
+    draft.operand[gate][first] = a;
+    draft.operand[gate][1 - first] = b;
+    return latch(draft.counts.latches + gate);
+}
+
+static uint16_t either(uint16_t a, uint16_t b)
+{
+    return both(a ^ 1, b ^ 1) ^ 1;
+}
+
+static uint16_t just_one(uint16_t a, uint16_t b)
+{
+    return both(either(a, b), both(a, b) ^ 1);
+}
+
+static uint16_t count_is(size_t at, size_t size, size_t number)
+{
+    uint16_t all = 1;
+    for (size_t i = 0; i < size; i++)
+        all = both(all, latch(at + i) ^ (number >> i & 1 ? 0 : 1));
+    return all;
+}
+
+static void draw_ring(size_t at, size_t size)
+{
+    uint16_t some = 0, two = 0;
+    for (size_t i = 0; i < size; i++) {
+        draft.next[at + i] = latch(at + (i + size - 1) % size);
+        draft.reset[at + i] = i == 0;
+        two = either(two, both(some, latch(at + i)));
+        some = either(some, latch(at + i));
+    }
+    hint(two);
+    hint(some);
+}
+
+/* Counts to some number and starts again, each tick or by some literal. */
+static void draw_counter(size_t at, size_t size)
+{
+    size_t last = below((size_t)1 << size);
+    uint16_t moves = one_in(3) ? any_literal() : 1;
+    uint16_t carry = moves, stays = both(moves, count_is(at, size, last)) ^ 1;
+    for (size_t i = 0; i < size; i++) {
+        draft.next[at + i] = both(stays, just_one(latch(at + i), carry));
+        draft.reset[at + i] = 0;
+        carry = both(carry, latch(at + i));
+    }
+    hint(count_is(at, size, last));
+    hint(count_is(at, size, ((size_t)1 << size) - 1));
+}
+
+/* Power-on, or power-off: one latch after the other changes, once. */
+static void draw_chain(size_t at, size_t size)
+{
+    uint16_t becomes = (uint16_t)below(2);
+    for (size_t i = 0; i < size; i++) {
+        draft.next[at + i] = i == 0 ? becomes : latch(at + i - 1);
+        draft.reset[at + i] = becomes ^ 1;
+    }
+    hint(both(latch(at + size - 1) ^ becomes ^ 1, latch(at) ^ becomes));
+}
+
+/* Latches that cannot be left once they have a value: some are there from the start. */
+static void draw_keepers(size_t at, size_t size)
+{
+    for (size_t i = 0; i < size; i++) {
+        int high = one_in(2);
+        draft.next[at + i] = high ? either(latch(at + i), any_literal()) : both(latch(at + i), any_literal());
+        draft.reset[at + i] = one_in(4) ? !high : high;
+        hint(latch(at + i));
+    }
+}
+
+static void draw_shift(size_t at, size_t size)
+{
+    for (size_t i = 0; i < size; i++) {
+        draft.next[at + i] = i == 0 ? any_literal() : latch(at + i - 1);
+        draft.reset[at + i] = one_in(2);
+    }
+}
+
+static void draw_wild(size_t at, size_t size)
+{
+    for (size_t i = 0; i < size; i++) {
+        draft.next[at + i] = any_literal();
+        draft.reset[at + i] = one_in(2);
+    }
+}
+
+static void draw_pieces(size_t latches)
+{
+    static void (*const draw[])(size_t, size_t) = {draw_ring,    draw_counter, draw_chain,
+                                                   draw_keepers, draw_shift,   draw_wild};
+    for (size_t at = 0; at < latches;) {
+        size_t size = 1 + below(one_in(8) ? 10 : 5);
+        if (size > latches - at)
+            size = latches - at;
+        draw[below(sizeof draw / sizeof draw[0])](at, size);
+        for (size_t i = below(4); i > 0; i--)
+            both(any_literal(), any_literal());
+        at += size;
+    }
+}
+
+static uint16_t draw_lamp(void)
+{
+    uint16_t hinted = draft.hints == 0 ? any_literal() : draft.hint[below(draft.hints)];
+    uint16_t literal = any_literal();
+    switch (below(8)) {
+    case 0:
+        return (uint16_t)below(2);
+    case 1:
+        return both(literal, literal ^ 1);
+    case 2:
+        return both(hinted, literal);
+    case 3:
+        return either(hinted, literal);
+    case 4:
+        return literal;
+    default:
+        return hinted ^ (uint16_t)one_in(3);
+    }
+}
+
+static void draw_draft(void)
+{
+    draft.hints = 0;
+    draft.counts.inputs = below(one_in(16) ? 60 : 6);
+    draft.counts.latches = below(one_in(32) ? 200 : one_in(4) ? 40 : 13);
+    draft.counts.gates = 0;
+    draw_pieces(draft.counts.latches);
+    for (size_t i = below(8 + draft.counts.latches); i > 0; i--)
+        both(any_literal(), any_literal());
+    draft.counts.lamps = below(one_in(16) ? CHUDRAVIK_MOST_LAMPS + 1 : 12);
+    for (size_t i = 0; i < draft.counts.lamps; i++)
+        draft.lamp[i] = draw_lamp();
+}
+
+static void add_numbers(const char *before, size_t count, const size_t *numbers)
+{
+    char line[64];
+    int bytes = snprintf(line, sizeof line, "%s", before);
+    for (size_t i = 0; i < count; i++)
+        bytes += snprintf(line + bytes, sizeof line - (size_t)bytes, "%s%zu", bytes == 0 ? "" : " ", numbers[i]);
+    line[bytes++] = '\n';
+    if (circuit.text_bytes + (size_t)bytes > CHUDRAVIK_MOST_TEXT)
+        fail("own circuit", "text too long", 0);
+    memcpy(circuit.text + circuit.text_bytes, line, (size_t)bytes);
+    circuit.text_bytes += (size_t)bytes;
+}
+
+/* A reset of 0 is sometimes written out: a reader must take both. */
+static void write_draft(void)
+{
+    chudravik_counts n = draft.counts;
+    size_t own = 2;
+    circuit.text_bytes = 0;
+    add_numbers("aag", 5, (size_t[]){n.inputs + n.latches + n.gates, n.inputs, n.latches, n.lamps, n.gates});
+    for (size_t i = 0; i < n.inputs; i++, own += 2)
+        add_numbers("", 1, &own);
+    for (size_t i = 0; i < n.latches; i++, own += 2)
+        add_numbers("", draft.reset[i] || one_in(4) ? 3 : 2, (size_t[]){own, draft.next[i], draft.reset[i]});
+    for (size_t i = 0; i < n.lamps; i++)
+        add_numbers("", 1, (size_t[]){draft.lamp[i]});
+    for (size_t i = 0; i < n.gates; i++, own += 2)
+        add_numbers("", 3, (size_t[]){own, draft.operand[i][0], draft.operand[i][1]});
+}
+
+static int table_is_draft(void)
+{
+    const uint16_t *word = circuit.table;
+    int same = circuit.counts.inputs == draft.counts.inputs && circuit.counts.latches == draft.counts.latches &&
+               circuit.counts.lamps == draft.counts.lamps && circuit.counts.gates == draft.counts.gates;
+    for (size_t i = 0; same && i < draft.counts.latches; i++, word += 2)
+        same = word[0] == draft.next[i] && word[1] == draft.reset[i];
+    for (size_t i = 0; same && i < draft.counts.lamps; i++, word++)
+        same = word[0] == draft.lamp[i];
+    for (size_t i = 0; same && i < draft.counts.gates; i++, word += 2)
+        same = word[0] == draft.operand[i][0] && word[1] == draft.operand[i][1];
+    return same;
+}
+
+static void examine_random(void)
+{
+    draw_draft();
+    write_draft();
+    read_circuit("own circuit");
+    if (!table_is_draft())
+        fail("own circuit", "read as another circuit", 0);
+    examine(0);
+}
+
+/* ---- given circuits ---- */
+
+static void examine_file(const char *path, uint64_t least_ticks)
+{
+    FILE *file = fopen(path, "rb");
+    circuit.text_bytes = file == NULL ? 0 : fread(circuit.text, 1, sizeof circuit.text, file);
+    if (file == NULL || ferror(file))
+        fail(path, "cannot be loaded", 0);
+    fclose(file);
+    read_circuit(path);
+    examine(least_ticks);
+    sum.files++;
+}
+
+/* ---- the whole ---- */
+
+static int number_of(const char *word, uint64_t *number)
+{
+    char *end;
+    *number = strtoull(word, &end, 10);
+    return isdigit((unsigned char)word[0]) && *end == '\0';
+}
+
+static void print_sum(void)
+{
+    printf("circuits %" PRIu64 ", of them from files %" PRIu64 "\n", sum.circuits, sum.files);
+    printf("runs %" PRIu64 ": closed %" PRIu64 ", no room %" PRIu64 "\n", sum.runs, sum.closed, sum.no_room);
+    printf("verdicts: never %" PRIu64 ", always %" PRIu64 ", open %" PRIu64 " (seen both lit and dark %" PRIu64 ")\n",
+           sum.never, sum.always, sum.open, sum.open_seen_both);
+    printf("settled latches %" PRIu64 "\n", sum.settled);
+    printf("ticks %" PRIu64 "\n", sum.ticks);
+}
+
+int main(int argc, char **argv)
+{
+    uint64_t ticks, seed = 1;
+    int first_file = 2;
+    if (argc < 2 || !number_of(argv[1], &ticks)) {
+        fprintf(stderr, "usage: boolean TICKS [SEED] [FILE..]\n");
+        return 1;
+    }
+    if (argc > 2 && number_of(argv[2], &seed))
+        first_file = 3;
+    else
+        seed = 1;
+    seed_chance(seed);
+    printf("seed %" PRIu64 "\n", seed);
+    for (int i = first_file; i < argc; i++)
+        examine_file(argv[i], ticks / 2 / EXECUTIONS / (uint64_t)(argc - first_file));
+    while (sum.ticks < ticks)
+        examine_random();
+    print_sum();
+    if (ticks >= MANY_TICKS &&
+        (sum.never < LEAST_OF_A_KIND || sum.always < LEAST_OF_A_KIND || sum.settled < LEAST_OF_A_KIND)) {
+        fprintf(stderr, "boolean: too few verdicts of a kind\n");
+        return 1;
+    }
+    return 0;
+}

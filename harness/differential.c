@@ -1,0 +1,1534 @@
+/* Random and damaged calls of every kind, each made twice on equal memory: to the library, in guarded buffers, and to
+ * the simulator. Answers and every lent byte must be equal afterwards, given bytes and canaries as they were.
+ *
+ * differential CALLS [SEED [FIRST]]
+ *
+ * Call number k of a seed does not depend on the calls before it: `differential 1 SEED k` makes it again.
+ */
+#define _DEFAULT_SOURCE
+#include "guarded.h"
+#include "simulator.h"
+
+#include <errno.h>
+#include <inttypes.h>
+#include <signal.h>
+#include <stdarg.h>
+#include <stdio.h>
+#include <stdlib.h>
+#include <string.h>
+#include <unistd.h>
+
+enum {
+    INPUTS_CEILING = 256,
+    LATCHES_CEILING = 512,
+    LAMPS_CEILING = 64,
+    GATES_CEILING = 3327,
+    WORDS_CEILING = 2 * LATCHES_CEILING + LAMPS_CEILING + 2 * GATES_CEILING,
+    TEXT_CEILING = 60000,
+    WRITTEN_CEILING = 57122,
+    CUBES_CEILING = 65536,
+    LONGEST_TEXT = 70000, /* that is made here, so that 1 is met too */
+    LONGEST_BUFFER = 70016
+};
+
+/* ---- chance ---- */
+
+static uint64_t dice;
+
+static uint64_t draw(void)
+{
+    dice += UINT64_C(0xA3C59AC3D1F2B86B);
+    uint64_t mixed = dice;
+    mixed = (mixed ^ (mixed >> 31)) * UINT64_C(0x9D6E5F3B17C8A24D);
+    mixed = (mixed ^ (mixed >> 29)) * UINT64_C(0xC8B1E6D94F35A70B);
+    return mixed ^ (mixed >> 32);
+}
+
+static void throw_dice(uint64_t seed, uint64_t call)
+{
+    dice = seed;
+    dice = draw() ^ (call * UINT64_C(0xD1B54F3A96E7C285));
+    draw();
+}
+
+/* Draws are never two in one expression whose order C leaves open, so that a seed means the same calls everywhere. */
+static size_t below(size_t bound)
+{
+    return bound == 0 ? 0 : (size_t)(draw() % bound);
+}
+
+static size_t between(size_t least, size_t most)
+{
+    return least + below(most - least + 1);
+}
+
+static bool chance(unsigned percent)
+{
+    return below(100) < percent;
+}
+
+static size_t one_of(const size_t *choices, size_t count)
+{
+    return choices[below(count)];
+}
+
+#define ONE_OF(...) one_of((const size_t[]){__VA_ARGS__}, sizeof((const size_t[]){__VA_ARGS__}) / sizeof(size_t))
+
+static size_t least_of(size_t one, size_t other)
+{
+    return one < other ? one : other;
+}
+
+/* ---- the call in hand, and how it fails ---- */
+
+enum role { TEXT, TABLE, STATE, SWITCHES, NEXT, LAMPS, CUBES, VERDICT, SETTLED, ROLES };
+
+static const char *const role_names[ROLES] = {"text",  "table", "state",   "switches", "next",
+                                              "lamps", "cubes", "verdict", "settled"};
+
+/* One buffer in its two copies, and as it was before the call. */
+typedef struct {
+    bool used;
+    bool given; /* and so not to be changed */
+    size_t bytes;
+    guarded library;
+    uint8_t *simulated;
+    uint8_t *before;
+} lent;
+
+static lent lent_to[ROLES];
+
+static uint64_t seed, number_in_hand;
+static const char *call_in_hand;
+static chudravik_counts counts_in_hand;
+static size_t w_in_hand;
+
+static void show_buffer(const char *name, const uint8_t *bytes, size_t count)
+{
+    fprintf(stderr, "  %s: %zu bytes:", name, count);
+    for (size_t i = 0; i < count && i < 64; i++)
+        fprintf(stderr, " %02x", bytes[i]);
+    fputs(count > 64 ? " ..\n" : "\n", stderr);
+}
+
+static void show_call(void)
+{
+    fprintf(stderr, "  call %s, I %zu, L %zu, O %zu, A %zu, w %zu\n", call_in_hand, counts_in_hand.inputs,
+            counts_in_hand.latches, counts_in_hand.lamps, counts_in_hand.gates, w_in_hand);
+    for (size_t role = 0; role < ROLES; role++)
+        if (lent_to[role].used)
+            show_buffer(role_names[role], lent_to[role].before, lent_to[role].bytes);
+    fprintf(stderr, "  again: differential 1 %" PRIu64 " %" PRIu64 "\n", seed, number_in_hand);
+}
+
+static void fail(const char *form, ...)
+{
+    va_list rest;
+    va_start(rest, form);
+    fprintf(stderr, "differential: seed %" PRIu64 ", call number %" PRIu64 ": ", seed, number_in_hand);
+    vfprintf(stderr, form, rest);
+    fputc('\n', stderr);
+    va_end(rest);
+    show_call();
+    exit(1);
+}
+
+/* The program ends here, so that what is not safe in a handler does no harm that lasts. */
+static void touched(int signal_number, siginfo_t *info, void *context)
+{
+    (void)context;
+    for (size_t role = 0; role < ROLES; role++)
+        if (guarded_near(&lent_to[role].library, info->si_addr))
+            fail("signal %d: memory beyond a buffer was touched: %s", signal_number, role_names[role]);
+    fail("signal %d, far from every buffer", signal_number);
+}
+
+static void watch_signals(void)
+{
+    static uint8_t stack[1 << 16];
+    stack_t own_stack = {.ss_sp = stack, .ss_size = sizeof stack};
+    struct sigaction action = {.sa_sigaction = touched, .sa_flags = SA_SIGINFO | SA_ONSTACK};
+    if (sigaltstack(&own_stack, NULL) != 0 || sigaction(SIGSEGV, &action, NULL) != 0 ||
+        sigaction(SIGBUS, &action, NULL) != 0 || sigaction(SIGILL, &action, NULL) != 0) {
+        perror("differential");
+        exit(2);
+    }
+}
+
+/* ---- buffers ---- */
+
+static void take_memory(void)
+{
+    for (size_t role = 0; role < ROLES; role++) {
+        lent_to[role].simulated = malloc(LONGEST_BUFFER);
+        lent_to[role].before = malloc(LONGEST_BUFFER);
+        if (lent_to[role].simulated == NULL || lent_to[role].before == NULL) {
+            fputs("differential: no memory\n", stderr);
+            exit(2);
+        }
+    }
+}
+
+static void lend(enum role role, bool given, size_t bytes)
+{
+    lent *l = &lent_to[role];
+    l->used = true;
+    l->given = given;
+    l->bytes = bytes;
+    uint8_t *laid = guarded_lay(&l->library, bytes, chance(50) ? GUARD_BEHIND : GUARD_BEFORE);
+    if (bytes == 0)
+        return;
+    memcpy(laid, l->before, bytes);
+    memcpy(l->simulated, l->before, bytes);
+}
+
+static void fill_noise(uint8_t *bytes, size_t count)
+{
+    uint64_t word = 0;
+    for (size_t i = 0; i < count; i++) {
+        if (i % 8 == 0)
+            word = draw();
+        bytes[i] = (uint8_t)(word >> (i % 8 * 8));
+    }
+}
+
+static void lend_given(enum role role, const void *content, size_t bytes)
+{
+    if (bytes != 0)
+        memcpy(lent_to[role].before, content, bytes);
+    lend(role, true, bytes);
+}
+
+/* What a call fills holds noise first, so that a byte it should not have written is seen. */
+static void lend_noise(enum role role, size_t bytes)
+{
+    fill_noise(lent_to[role].before, bytes);
+    lend(role, false, bytes);
+}
+
+static uint8_t *of_library(enum role role)
+{
+    return lent_to[role].library.start;
+}
+
+static uint8_t *of_simulator(enum role role)
+{
+    return lent_to[role].simulated;
+}
+
+static size_t bytes_of(enum role role)
+{
+    return lent_to[role].bytes;
+}
+
+/* Regions and malloc'ed memory start on even addresses, and a table has an even count of bytes. */
+static uint16_t *library_table(void)
+{
+    return (uint16_t *)(void *)of_library(TABLE);
+}
+
+static uint16_t *simulator_table(void)
+{
+    return (uint16_t *)(void *)of_simulator(TABLE);
+}
+
+static size_t table_words(void)
+{
+    return bytes_of(TABLE) / 2;
+}
+
+static void must_equal(const char *name, const char *complaint, const uint8_t *is, const uint8_t *due, size_t bytes)
+{
+    for (size_t i = 0; i < bytes; i++)
+        if (is[i] != due[i])
+            fail("%s %s: byte %zu is %02x, not %02x", name, complaint, i, is[i], due[i]);
+}
+
+static void compare_buffer(enum role role)
+{
+    const lent *l = &lent_to[role];
+    if (l->given)
+        must_equal(role_names[role], "was given, and the library changed it", l->library.start, l->before, l->bytes);
+    must_equal(role_names[role], "is not as the simulator left it", l->library.start, l->simulated, l->bytes);
+    if (!guarded_whole(&l->library))
+        fail("%s: a canary beyond the buffer has changed", role_names[role]);
+}
+
+static void compare_buffers(void)
+{
+    for (size_t role = 0; role < ROLES; role++)
+        if (lent_to[role].used)
+            compare_buffer(role);
+}
+
+static void compare_number(const char *name, size_t library, size_t simulator)
+{
+    if (library != simulator)
+        fail("%s: library %zu, simulator %zu", name, library, simulator);
+}
+
+static void compare_counts(chudravik_counts library, chudravik_counts simulator)
+{
+    compare_number("I", library.inputs, simulator.inputs);
+    compare_number("L", library.latches, simulator.latches);
+    compare_number("O", library.lamps, simulator.lamps);
+    compare_number("A", library.gates, simulator.gates);
+}
+
+/* ---- circuits ---- */
+
+typedef struct {
+    chudravik_counts counts;
+    uint16_t next[LATCHES_CEILING];
+    uint16_t reset[LATCHES_CEILING];
+    uint16_t lamp[LAMPS_CEILING];
+    uint16_t operand[GATES_CEILING][2];
+} circuit;
+
+static size_t variables(const circuit *c)
+{
+    return c->counts.inputs + c->counts.latches + c->counts.gates;
+}
+
+static size_t top_literal(const circuit *c)
+{
+    return 2 * variables(c) + 1;
+}
+
+static size_t switch_literal(size_t i)
+{
+    return 2 * (1 + i);
+}
+
+static size_t latch_literal(const circuit *c, size_t i)
+{
+    return 2 * (1 + c->counts.inputs + i);
+}
+
+static size_t gate_literal(const circuit *c, size_t i)
+{
+    return 2 * (1 + c->counts.inputs + c->counts.latches + i);
+}
+
+/* Often a late one, so that gates stand on gates and depth comes about. */
+static uint16_t literal_below(size_t bound)
+{
+    if (chance(4))
+        return (uint16_t)below(2);
+    if (chance(35))
+        return (uint16_t)(bound - 1 - below(least_of(bound, 12)));
+    return (uint16_t)below(bound);
+}
+
+static size_t perhaps_inverted(size_t literal)
+{
+    return literal ^ below(2);
+}
+
+static size_t add_gate(circuit *c, size_t left, size_t right)
+{
+    if (c->counts.gates == GATES_CEILING)
+        return 0;
+    size_t place = c->counts.gates++;
+    bool swapped = chance(50);
+    c->operand[place][swapped] = (uint16_t)left;
+    c->operand[place][!swapped] = (uint16_t)right;
+    return gate_literal(c, place);
+}
+
+static size_t add_either(circuit *c, size_t one, size_t other)
+{
+    return add_gate(c, one ^ 1, other ^ 1) ^ 1;
+}
+
+static size_t add_unlike(circuit *c, size_t one, size_t other)
+{
+    size_t only_one = add_gate(c, one, other ^ 1);
+    return add_either(c, only_one, add_gate(c, one ^ 1, other));
+}
+
+static void add_random_gates(circuit *c, size_t count)
+{
+    for (size_t i = 0; i < count && c->counts.gates < GATES_CEILING; i++) {
+        size_t own = gate_literal(c, c->counts.gates);
+        size_t left = literal_below(own);
+        add_gate(c, left, literal_below(own));
+    }
+}
+
+static void set_resets(circuit *c)
+{
+    bool mixed = chance(60);
+    for (size_t i = 0; i < c->counts.latches; i++)
+        c->reset[i] = (uint16_t)(mixed ? below(2) : 0);
+}
+
+static void set_random_lamps(circuit *c)
+{
+    for (size_t i = 0; i < c->counts.lamps; i++)
+        c->lamp[i] = literal_below(top_literal(c) + 1);
+}
+
+/* Every count at its ceiling, every literal with as many digits as there are, every reset shown; and the gates in one
+ * chain, or not. */
+static void make_widest_circuit(circuit *c)
+{
+    bool chained = chance(50);
+    c->counts = (chudravik_counts){INPUTS_CEILING, LATCHES_CEILING, LAMPS_CEILING, 0};
+    while (c->counts.gates < GATES_CEILING) {
+        size_t last = gate_literal(c, c->counts.gates) - 1;
+        size_t left = chained ? last - below(2) : between(1000, last);
+        add_gate(c, left, between(1000, last));
+    }
+    for (size_t i = 0; i < LATCHES_CEILING; i++) {
+        c->next[i] = (uint16_t)between(1000, top_literal(c));
+        c->reset[i] = 1;
+    }
+    for (size_t i = 0; i < LAMPS_CEILING; i++)
+        c->lamp[i] = (uint16_t)between(1000, top_literal(c));
+}
+
+static void make_random_circuit(circuit *c, chudravik_counts counts)
+{
+    c->counts = counts;
+    c->counts.gates = 0;
+    add_random_gates(c, counts.gates);
+    for (size_t i = 0; i < counts.latches; i++)
+        c->next[i] = literal_below(top_literal(c) + 1);
+    set_resets(c);
+    set_random_lamps(c);
+}
+
+static size_t random_count(size_t most)
+{
+    return chance(12) ? 0 : chance(6) ? most : between(0, most);
+}
+
+static chudravik_counts random_counts(size_t inputs, size_t latches, size_t lamps, size_t gates)
+{
+    chudravik_counts counts;
+    counts.inputs = random_count(inputs);
+    counts.latches = random_count(latches);
+    counts.lamps = random_count(lamps);
+    counts.gates = random_count(gates);
+    return counts;
+}
+
+static chudravik_counts random_size(void)
+{
+    size_t roll = below(1000);
+    if (roll < 3)
+        return (chudravik_counts){INPUTS_CEILING, LATCHES_CEILING, LAMPS_CEILING, GATES_CEILING};
+    if (roll < 24)
+        return random_counts(INPUTS_CEILING, LATCHES_CEILING, LAMPS_CEILING, GATES_CEILING);
+    if (roll < 100)
+        return random_counts(40, 100, 20, 400);
+    return roll < 550 ? random_counts(8, 12, 8, 40) : random_counts(2, 4, 3, 5);
+}
+
+/* ---- clockworks: circuits that count, shift and settle ---- */
+
+/* Some of the latches, in the order in which they stand in a block. */
+typedef struct {
+    const size_t *latch;
+    size_t size;
+} places;
+
+static size_t literal_at(const circuit *c, places p, size_t i)
+{
+    return latch_literal(c, p.latch[i]);
+}
+
+/* What keeps a block going: mostly nothing but the constant, else a switch or some latch. */
+static size_t drive(const circuit *c)
+{
+    if (c->counts.inputs > 0 && chance(10))
+        return switch_literal(below(c->counts.inputs));
+    return chance(10) ? latch_literal(c, below(c->counts.latches)) : 1;
+}
+
+static void add_counter(circuit *c, places p)
+{
+    size_t carry = drive(c);
+    for (size_t i = 0; i < p.size; i++) {
+        c->next[p.latch[i]] = (uint16_t)add_unlike(c, literal_at(c, p, i), carry);
+        carry = add_gate(c, carry, literal_at(c, p, i));
+    }
+}
+
+static size_t add_match(circuit *c, places p, size_t number)
+{
+    size_t match = 1;
+    for (size_t i = 0; i < p.size; i++)
+        match = add_gate(c, match, literal_at(c, p, i) ^ (number >> i % 64 & 1 ? 0 : 1));
+    return match;
+}
+
+/* A counter that starts again from 0 after some number, or stays there. */
+static void add_capped_counter(circuit *c, places p)
+{
+    bool stays = chance(40);
+    size_t match = add_match(c, p, draw());
+    size_t carry = stays ? match ^ 1 : 1;
+    for (size_t i = 0; i < p.size; i++) {
+        size_t counted = add_unlike(c, literal_at(c, p, i), carry);
+        carry = add_gate(c, carry, literal_at(c, p, i));
+        c->next[p.latch[i]] = (uint16_t)(stays ? counted : add_gate(c, counted, match ^ 1));
+    }
+}
+
+static void add_shift(circuit *c, places p, size_t into)
+{
+    c->next[p.latch[0]] = (uint16_t)into;
+    for (size_t i = 1; i < p.size; i++)
+        c->next[p.latch[i]] = (uint16_t)literal_at(c, p, i - 1);
+}
+
+static void add_ring(circuit *c, places p)
+{
+    add_shift(c, p, perhaps_inverted(literal_at(c, p, p.size - 1)));
+}
+
+static void add_delay(circuit *c, places p)
+{
+    add_shift(c, p, perhaps_inverted(drive(c)));
+}
+
+static void add_tapped_ring(circuit *c, places p)
+{
+    size_t tap = literal_at(c, p, below(p.size));
+    add_shift(c, p, perhaps_inverted(add_unlike(c, literal_at(c, p, p.size - 1), tap)));
+}
+
+/* Next literals that look at these latches only: what is known stays known, and the way may be long. */
+static void add_closed_block(circuit *c, places p)
+{
+    size_t signal[40];
+    for (size_t i = 0; i < 40; i++) {
+        size_t one = i < 4 ? literal_at(c, p, below(p.size)) : signal[below(i)];
+        size_t other = perhaps_inverted(literal_at(c, p, below(p.size)));
+        signal[i] = chance(50) ? add_unlike(c, one, other) : add_gate(c, perhaps_inverted(one), other);
+    }
+    for (size_t i = 0; i < p.size; i++)
+        c->next[p.latch[i]] = (uint16_t)perhaps_inverted(signal[below(40)]);
+}
+
+static size_t some_switch(const circuit *c)
+{
+    return c->counts.inputs > 0 ? switch_literal(below(c->counts.inputs)) : 1;
+}
+
+/* Latches that are unknown or known by what others are: cubes that overlap. */
+static void add_veiled_block(circuit *c, places p)
+{
+    size_t veil = some_switch(c);
+    for (size_t i = 0; i < p.size; i++) {
+        size_t other = perhaps_inverted(latch_literal(c, below(c->counts.latches)));
+        c->next[p.latch[i]] = (uint16_t)perhaps_inverted(add_gate(c, perhaps_inverted(veil), other));
+    }
+}
+
+/* One X that goes down a line: what comes then is subsumed by many cubes, and the search must give the first. */
+static void add_pulse(circuit *c, places p)
+{
+    add_shift(c, p, 0);
+    c->reset[p.latch[0]] = 1;
+    if (p.size > 1)
+        c->next[p.latch[1]] = (uint16_t)add_gate(c, some_switch(c), literal_at(c, p, 0));
+}
+
+static void add_loose_block(circuit *c, places p)
+{
+    add_random_gates(c, below(12));
+    for (size_t i = 0; i < p.size; i++)
+        c->next[p.latch[i]] = literal_below(gate_literal(c, c->counts.gates));
+}
+
+typedef void block_maker(circuit *c, places p);
+
+typedef struct {
+    block_maker *make;
+    size_t usual, longest; /* sizes */
+} block_kind;
+
+static const block_kind block_kinds[] = {
+    {add_counter, 9, 16},      {add_capped_counter, 9, 14}, {add_ring, 11, 400},
+    {add_delay, 9, 300},       {add_tapped_ring, 11, 20},   {add_closed_block, 12, 20},
+    {add_veiled_block, 6, 40}, {add_pulse, 8, 100},         {add_loose_block, 5, 100},
+};
+
+enum { BLOCK_KINDS = sizeof block_kinds / sizeof block_kinds[0], MOST_BLOCKS = 4 };
+
+static void set_places(size_t *place, size_t count)
+{
+    bool mixed = chance(50);
+    for (size_t i = 0; i < count; i++) {
+        size_t other = mixed ? below(i + 1) : i;
+        if (other != i)
+            place[i] = place[other];
+        place[other] = i;
+    }
+}
+
+static void make_clockwork(circuit *c)
+{
+    const block_kind *kind[MOST_BLOCKS];
+    size_t size[MOST_BLOCKS], place[LATCHES_CEILING], blocks = between(1, between(1, MOST_BLOCKS)), first = 0;
+    c->counts = (chudravik_counts){.inputs = below(4)};
+    c->counts.lamps = random_count(8);
+    for (size_t i = 0; i < blocks; i++) {
+        kind[i] = &block_kinds[below(BLOCK_KINDS)];
+        size[i] = between(1, chance(8) ? kind[i]->longest : kind[i]->usual);
+        size[i] = least_of(size[i], LATCHES_CEILING - c->counts.latches);
+        c->counts.latches += size[i];
+    }
+    set_places(place, c->counts.latches);
+    set_resets(c);
+    for (size_t i = 0; i < blocks; first += size[i++])
+        if (size[i] > 0)
+            kind[i]->make(c, (places){place + first, size[i]});
+    add_random_gates(c, below(10));
+    set_random_lamps(c);
+}
+
+static void make_circuit(circuit *c, unsigned clockwork_percent)
+{
+    if (chance(clockwork_percent))
+        make_clockwork(c);
+    else if (chance(2))
+        make_widest_circuit(c);
+    else
+        make_random_circuit(c, random_size());
+}
+
+/* ---- tables and counts ---- */
+
+static size_t words_of(chudravik_counts counts)
+{
+    return 2 * counts.latches + counts.lamps + 2 * counts.gates;
+}
+
+static void lay_words(const circuit *c, uint16_t *word)
+{
+    for (size_t i = 0; i < c->counts.latches; i++) {
+        *word++ = c->next[i];
+        *word++ = c->reset[i];
+    }
+    memcpy(word, c->lamp, c->counts.lamps * sizeof *word);
+    memcpy(word + c->counts.lamps, c->operand, 2 * c->counts.gates * sizeof *word);
+}
+
+/* Percent of chance that any one part of the call in hand is damaged. Most calls have none, some nearly all, so that
+ * the order of refusals shows. */
+static unsigned trouble;
+
+/* How many parts are left alone first, so that what is judged late is met as often as what is judged early. */
+static size_t calm;
+
+static void set_trouble(void)
+{
+    size_t roll = below(100);
+    trouble = roll < 40 ? 0 : roll < 55 ? 8 : roll < 75 ? 20 : roll < 90 ? 45 : 85;
+    calm = chance(50) ? below(8) : 0;
+}
+
+static bool troubled(void)
+{
+    if (calm > 0) {
+        calm--;
+        return false;
+    }
+    return chance(trouble);
+}
+
+/* A length for something that needs so much: enough, or in trouble mostly not. */
+static size_t length_for(size_t need)
+{
+    if (troubled())
+        return ONE_OF(need == 0 ? 0 : need - 1, need == 0 ? 0 : need - 1, 0, need / 2, below(need + 1), need);
+    size_t beyond = below(300);
+    return ONE_OF(need, need, need, need + 1, need + beyond % 9, need + beyond);
+}
+
+static uint16_t edge_literal(const circuit *c, size_t own)
+{
+    size_t top = top_literal(c);
+    return (uint16_t)ONE_OF(0, 1, own - 1, own, own + 1, own + 2, top - 1, top, top + 1, top + 2, 8190, 8191, 8192,
+                            32768, 65535, below(65536));
+}
+
+static uint16_t edge_reset(void)
+{
+    return (uint16_t)ONE_OF(0, 1, 2, 2, 3, 256, 257, 8191, 32768, 65535, below(65536));
+}
+
+static void damage_latch(circuit *c, size_t i)
+{
+    size_t parts = between(1, 3);
+    if (parts & 1)
+        c->next[i] = edge_literal(c, latch_literal(c, i));
+    if (parts & 2)
+        c->reset[i] = edge_reset();
+}
+
+static void damage_lamp(circuit *c, size_t i)
+{
+    c->lamp[i] = edge_literal(c, 2);
+}
+
+static void damage_gate(circuit *c, size_t i)
+{
+    size_t parts = between(1, 3);
+    for (size_t side = 0; side < 2; side++)
+        if (parts >> side & 1)
+            c->operand[i][side] = edge_literal(c, gate_literal(c, i));
+}
+
+/* Words of one line to an edge, so that the circuit breaks 6, 7 or 8, or two of them, or only just none. */
+static void damage_circuit(circuit *c)
+{
+    size_t roll = below(5);
+    if (roll < 2 && c->counts.latches > 0)
+        damage_latch(c, below(c->counts.latches));
+    else if (roll < 4 && c->counts.gates > 0)
+        damage_gate(c, below(c->counts.gates));
+    else if (c->counts.lamps > 0)
+        damage_lamp(c, below(c->counts.lamps));
+}
+
+static size_t table_length_for(const circuit *c)
+{
+    return chance(3) ? WORDS_CEILING + below(2) : length_for(words_of(c->counts));
+}
+
+static void lend_table(circuit *c)
+{
+    uint16_t word[WORDS_CEILING + 300];
+    size_t length = table_length_for(c);
+    fill_noise((uint8_t *)word, 2 * length);
+    if (troubled())
+        damage_circuit(c);
+    lay_words(c, word);
+    lend_given(TABLE, word, 2 * length);
+}
+
+static size_t edge_count(size_t count, size_t ceiling)
+{
+    const size_t half = (size_t)1 << 63;
+    return ONE_OF(0, count - 1, count + 1, count + 2, ceiling, ceiling + 1, 4095, 4096, count + 65536,
+                  count + ((size_t)1 << 32), (size_t)1 << 32, UINT32_MAX, half, half + count, half - 1, SIZE_MAX,
+                  SIZE_MAX - 1, draw());
+}
+
+/* Two counts whose sum, or whose words in the table, wrap round to what would pass. */
+static void wrap_counts(chudravik_counts *counts)
+{
+    const size_t half = (size_t)1 << 63;
+    switch (below(4)) {
+    case 0:
+        counts->inputs = 0 - counts->latches - counts->gates + below(3);
+        break;
+    case 1:
+        counts->gates = 0 - counts->latches + below(3);
+        break;
+    case 2:
+        counts->latches += half;
+        counts->gates += chance(50) ? half : 0;
+        break;
+    default:
+        counts->lamps = 0 - 2 * counts->latches - 2 * counts->gates + below(3);
+    }
+}
+
+static chudravik_counts handed_counts(const circuit *c)
+{
+    chudravik_counts counts = c->counts;
+    if (!troubled())
+        return counts;
+    switch (below(5)) {
+    case 0:
+        counts.inputs = edge_count(counts.inputs, INPUTS_CEILING);
+        break;
+    case 1:
+        counts.latches = edge_count(counts.latches, LATCHES_CEILING);
+        break;
+    case 2:
+        counts.lamps = edge_count(counts.lamps, LAMPS_CEILING);
+        break;
+    case 3:
+        counts.gates = edge_count(counts.gates, GATES_CEILING);
+        break;
+    default:
+        wrap_counts(&counts);
+    }
+    return counts;
+}
+
+/* ---- texts ---- */
+
+typedef struct {
+    uint8_t byte[LONGEST_TEXT];
+    size_t count;
+} text;
+
+/* What would go over the longest text is not done. */
+static void splice(text *t, size_t at, size_t dropped, const void *put, size_t count)
+{
+    if (t->count - dropped + count > LONGEST_TEXT)
+        return;
+    memmove(t->byte + at + count, t->byte + at + dropped, t->count - at - dropped);
+    memcpy(t->byte + at, put, count);
+    t->count = t->count - dropped + count;
+}
+
+static void append(text *t, const void *bytes, size_t count)
+{
+    splice(t, t->count, 0, bytes, count);
+}
+
+static void append_number(text *t, size_t number, char behind)
+{
+    char digits[24];
+    size_t first = sizeof digits;
+    digits[--first] = behind;
+    do
+        digits[--first] = (char)('0' + number % 10);
+    while ((number /= 10) != 0);
+    append(t, digits + first, sizeof digits - first);
+}
+
+static void append_first_line(text *t, size_t m, chudravik_counts counts)
+{
+    append(t, "aag ", 4);
+    append_number(t, m, ' ');
+    append_number(t, counts.inputs, ' ');
+    append_number(t, counts.latches, ' ');
+    append_number(t, counts.lamps, ' ');
+    append_number(t, counts.gates, '\n');
+}
+
+static void append_latch(text *t, const circuit *c, size_t i, bool reset_shown)
+{
+    append_number(t, latch_literal(c, i), ' ');
+    append_number(t, c->next[i], reset_shown ? ' ' : '\n');
+    if (reset_shown)
+        append_number(t, c->reset[i], '\n');
+}
+
+static void append_body(text *t, const circuit *c, unsigned zero_resets_percent)
+{
+    for (size_t i = 0; i < c->counts.inputs; i++)
+        append_number(t, switch_literal(i), '\n');
+    for (size_t i = 0; i < c->counts.latches; i++)
+        append_latch(t, c, i, c->reset[i] != 0 || chance(zero_resets_percent));
+    for (size_t i = 0; i < c->counts.lamps; i++)
+        append_number(t, c->lamp[i], '\n');
+    for (size_t i = 0; i < c->counts.gates; i++) {
+        append_number(t, gate_literal(c, i), ' ');
+        append_number(t, c->operand[i][0], ' ');
+        append_number(t, c->operand[i][1], '\n');
+    }
+}
+
+static void append_circuit(text *t, const circuit *c, unsigned zero_resets_percent)
+{
+    append_first_line(t, variables(c), c->counts);
+    append_body(t, c, zero_resets_percent);
+}
+
+/* ---- texts: damaged ---- */
+
+/* Anywhere, with the first line and the end more often than they would be in a long text. */
+static size_t some_place(const text *t)
+{
+    if (chance(20))
+        return below(least_of(t->count, 24));
+    return chance(15) ? t->count - 1 - below(least_of(t->count, 12)) : below(t->count);
+}
+
+static uint8_t some_byte(uint8_t was)
+{
+    static const char usual[] = "0123456789 \n\t\r+-.ac:/";
+    if (chance(15))
+        return (uint8_t)below(256);
+    return chance(20) ? (uint8_t)(was + 2 * below(2) - 1) : (uint8_t)usual[below(sizeof usual - 1)];
+}
+
+static size_t line_start(const text *t, size_t at)
+{
+    while (at > 0 && t->byte[at - 1] != '\n')
+        at--;
+    return at;
+}
+
+static size_t line_behind(const text *t, size_t at)
+{
+    while (at < t->count && t->byte[at] != '\n')
+        at++;
+    return at < t->count ? at + 1 : at;
+}
+
+static bool is_digit(const text *t, size_t at)
+{
+    return at < t->count && t->byte[at] >= '0' && t->byte[at] <= '9';
+}
+
+static size_t number_start(const text *t, size_t at)
+{
+    while (at < t->count && !is_digit(t, at))
+        at++;
+    while (at > 0 && is_digit(t, at - 1))
+        at--;
+    return at;
+}
+
+static size_t number_from(const text *t, size_t at)
+{
+    size_t number = 0;
+    for (; is_digit(t, at) && number < 100000; at++)
+        number = 10 * number + (size_t)(t->byte[at] - '0');
+    return number;
+}
+
+static size_t digits_from(const text *t, size_t at)
+{
+    size_t count = 0;
+    while (is_digit(t, at + count))
+        count++;
+    return count;
+}
+
+static void set_number(text *t, size_t at, size_t number)
+{
+    char digits[24];
+    int count = snprintf(digits, sizeof digits, "%zu", number);
+    splice(t, at, digits_from(t, at), digits, (size_t)count);
+}
+
+static void number_to_edge(text *t, const circuit *c)
+{
+    size_t at = number_start(t, some_place(t)), top = top_literal(c);
+    size_t own = number_from(t, line_start(t, at)), was = number_from(t, at);
+    if (chance(8))
+        splice(t, at, 0, "0", 1);
+    else if (chance(12)) /* the same in 16 bits */
+        set_number(t, at, was + 65536);
+    else
+        set_number(t, at,
+                   ONE_OF(0, 1, 2, 3, own, own + 1, own - 1, was + 1, was - 1, was ^ 1, top - 1, top, top + 1, top + 2,
+                          8190, 8191, 8192, 9999, 10000, 65535, 65536, 99999, 100000));
+}
+
+/* The first line anew, with one of its numbers at an edge; M goes along with it, or does not. */
+static void damage_first_line(text *t, const circuit *c)
+{
+    const size_t ceiling[] = {INPUTS_CEILING, LATCHES_CEILING, LAMPS_CEILING, GATES_CEILING};
+    chudravik_counts counts = c->counts;
+    size_t *const count[] = {&counts.inputs, &counts.latches, &counts.lamps, &counts.gates};
+    size_t which = below(4), *changed = count[which];
+    *changed = ONE_OF(0, *changed + 1, *changed - (*changed > 0), ceiling[which], ceiling[which] + 1, 4095, 4096, 9999,
+                      65536, 99999, 100000, *changed + 65536);
+    size_t m = counts.inputs + counts.latches + counts.gates;
+    if (chance(40))
+        m = ONE_OF(0, variables(c), m + 1, m + 65536, 4096, 99999);
+    static text first;
+    first.count = 0;
+    append_first_line(&first, m, counts);
+    splice(t, 0, line_behind(t, 0), first.byte, first.count);
+}
+
+static void move_line(text *t)
+{
+    size_t at = some_place(t), start = line_start(t, at), behind = line_behind(t, at);
+    uint8_t line[64];
+    size_t count = least_of(behind - start, sizeof line);
+    memcpy(line, t->byte + start, count);
+    switch (below(3)) {
+    case 0: /* dropped */
+        splice(t, start, behind - start, "", 0);
+        break;
+    case 1: /* repeated */
+        splice(t, behind, 0, line, count);
+        break;
+    default: /* behind the line that follows */
+        splice(t, line_behind(t, behind), 0, line, count);
+        splice(t, start, behind - start, "", 0);
+    }
+}
+
+static void append_tail(text *t)
+{
+    static const char *const tails[] = {"c",     "c",    "c",     "c\n",  "c \n",   "cc\n",     "C\n",
+                                        "\n",    " ",    " \n",   "0\n",  "0",      " c\n",     "c\r\n",
+                                        "c\n\n", "c\nc", "\nc\n", "cx\n", "c\r",    "c\n1",     "cc",
+                                        "c\t\n", "\nc",  "2 3\n", "6\n",  "i0 a\n", "c\naag 1", "c\n\xff"};
+    const char *tail = tails[below(sizeof tails / sizeof tails[0])];
+    append(t, tail, strlen(tail));
+}
+
+static void damage_byte(text *t)
+{
+    size_t at = some_place(t);
+    uint8_t other = some_byte(t->byte[at]);
+    switch (below(4)) {
+    case 0:
+        t->byte[at] = other;
+        break;
+    case 1:
+        splice(t, at, 1, "", 0);
+        break;
+    case 2:
+        splice(t, at, 0, &other, 1);
+        break;
+    default:
+        other = t->byte[at];
+        splice(t, at, 0, &other, 1);
+    }
+}
+
+static void damage(text *t, const circuit *c)
+{
+    size_t roll = t->count == 0 ? 99 : below(100);
+    if (roll < 28)
+        damage_byte(t);
+    else if (roll < 56)
+        number_to_edge(t, c);
+    else if (roll < 67)
+        damage_first_line(t, c);
+    else if (roll < 76)
+        move_line(t);
+    else if (roll < 84)
+        t->count = chance(30) ? t->count - 1 : some_place(t);
+    else
+        append_tail(t);
+}
+
+/* ---- texts: made ---- */
+
+static void append_comment(text *t, size_t count)
+{
+    append(t, "c\n", 2);
+    size_t room = LONGEST_TEXT - t->count;
+    fill_noise(t->byte + t->count, least_of(count, room));
+    t->count += least_of(count, room);
+}
+
+/* To just below, at and just above the ceiling, by a comment or by what is none. */
+static void lengthen(text *t)
+{
+    size_t length = ONE_OF(TEXT_CEILING - 1, TEXT_CEILING, TEXT_CEILING + 1, LONGEST_TEXT);
+    if (chance(70))
+        append(t, "c\n", 2);
+    if (t->count < length) {
+        memset(t->byte + t->count, '\n', length - t->count);
+        t->count = length;
+    }
+}
+
+static void make_noise_text(text *t)
+{
+    static const char alphabet[] = "aag 0123456789\nc";
+    t->count = 0;
+    if (chance(60))
+        append(t, "aag ", 4);
+    size_t count = below(40);
+    for (size_t i = 0; i < count; i++) {
+        uint8_t byte = (uint8_t)(chance(90) ? (size_t)alphabet[below(sizeof alphabet - 1)] : below(256));
+        append(t, &byte, 1);
+    }
+}
+
+static void make_text(text *t, circuit *c)
+{
+    t->count = 0;
+    if (chance(1))
+        return;
+    if (chance(3)) {
+        make_noise_text(t);
+        return;
+    }
+    for (size_t times = chance(20) ? between(1, 3) : 0; times > 0; times--)
+        damage_circuit(c);
+    append_circuit(t, c, (unsigned)ONE_OF(0, 30, 100));
+    if (chance(15))
+        append_comment(t, below(40));
+    else if (chance(6))
+        append_tail(t);
+    if (chance(3))
+        lengthen(t);
+    for (size_t times = chance(50) ? between(1, 3) : 0; times > 0; times--)
+        damage(t, c);
+}
+
+/* ---- records ---- */
+
+static size_t record_bytes(size_t fields)
+{
+    return fields == 0 ? 1 : (fields + 3) / 4;
+}
+
+static unsigned pair_at(const uint8_t *record, size_t i)
+{
+    return record[i / 4] >> (6 - i % 4 * 2) & 3u;
+}
+
+static void set_pair(uint8_t *record, size_t i, size_t pair)
+{
+    unsigned shift = (unsigned)(6 - i % 4 * 2);
+    record[i / 4] = (uint8_t)((record[i / 4] & ~(3u << shift)) | (unsigned)pair << shift);
+}
+
+static bool has_unknown(const uint8_t *record, size_t fields)
+{
+    for (size_t i = 0; i < fields; i++)
+        if (pair_at(record, i) == 0)
+            return true;
+    return false;
+}
+
+/* One pair anywhere in the bytes of the record: 11, or what would be good if it were a field. */
+static void damage_record(uint8_t *record, size_t fields)
+{
+    size_t place = below(4 * record_bytes(fields));
+    set_pair(record, place, chance(50) ? 3 : between(1, 2));
+}
+
+/* Behind the record noise, for it is ignored. */
+static void lend_record(enum role role, size_t fields)
+{
+    uint8_t record[LATCHES_CEILING];
+    unsigned unknown_percent = (unsigned)ONE_OF(0, 0, 10, 50, 100);
+    fill_noise(record, sizeof record);
+    memset(record, 0, record_bytes(fields));
+    for (size_t i = 0; i < fields; i++)
+        set_pair(record, i, chance(unknown_percent) ? 0 : between(1, 2));
+    if (troubled())
+        damage_record(record, fields);
+    lend_given(role, record, least_of(length_for(record_bytes(fields)), sizeof record));
+}
+
+/* ---- what was met ---- */
+
+enum call { READ, WRITE, TICK, RUN, CALLS };
+
+static const char *const call_names[CALLS] = {"read", "write", "tick", "run"};
+
+/* The numbers as they are, but 10 by what was too short. */
+enum { TEN_TABLE = 16, TEN_GIVEN, TEN_RESULT, OUTCOMES };
+
+static uint64_t met[CALLS][OUTCOMES];
+
+static bool can_give(enum call call, size_t outcome)
+{
+    switch (call) {
+    case READ:
+        return outcome <= 9 || outcome == TEN_TABLE;
+    case WRITE:
+        return outcome == 0 || outcome == 3 || outcome == 11 || outcome == TEN_TABLE || outcome == TEN_RESULT;
+    case TICK:
+        return outcome == 0 || outcome == 3 || outcome == 11 || outcome == 14 || outcome >= TEN_TABLE;
+    default:
+        return outcome == 0 || outcome == 3 || (outcome >= 11 && outcome <= 13) || outcome == 15 ||
+               outcome == TEN_TABLE || outcome == TEN_RESULT;
+    }
+}
+
+static void note(enum call call, uint32_t number, size_t ten)
+{
+    size_t outcome = number == 10 ? ten : number;
+    if (number > 15 || !can_give(call, outcome))
+        fail("%s gave %" PRIu32 ", which it cannot give", call_in_hand, number);
+    met[call][outcome]++;
+}
+
+/* Things worth meeting that no number shows. */
+enum sight {
+    LONG_CLOSED,
+    LONG_NO_ROOM,
+    CLOSED_FULL,
+    CLOSED_LATER,
+    CLOSED_WIDENED,
+    SOME_SETTLED,
+    SOME_NEVER,
+    SOME_ALWAYS,
+    LARGEST_CIRCUIT,
+    LONGEST_WRITTEN,
+    BOOLEAN_TICK,
+    TERNARY_TICK,
+    READ_BACK,
+    SIGHTS
+};
+
+static const char *const sight_names[SIGHTS] = {
+    "runs closed with 100 cubes or more",
+    "runs refused with 15 after 100 cubes or more",
+    "runs closed with no room left",
+    "runs closed back to a later cube than cube 0",
+    "runs closed after widening",
+    "runs with settled latches",
+    "runs with a lamp that never lights",
+    "runs with a lamp that is always lit",
+    "accepted calls with every count at its ceiling",
+    "texts of 57,122 bytes written",
+    "ticks without X",
+    "ticks with X",
+    "texts written and read back alike",
+};
+
+static uint64_t seen[SIGHTS];
+static size_t most_cubes;
+
+static void see(enum sight sight, bool it_is)
+{
+    seen[sight] += it_is;
+}
+
+static void see_size(uint32_t number, chudravik_counts counts)
+{
+    see(LARGEST_CIRCUIT, number == 0 && counts.inputs == INPUTS_CEILING && counts.latches == LATCHES_CEILING &&
+                             counts.lamps == LAMPS_CEILING && counts.gates == GATES_CEILING);
+}
+
+/* ---- the calls ---- */
+
+static void begin(enum call call, chudravik_counts counts)
+{
+    for (size_t role = 0; role < ROLES; role++)
+        lent_to[role].used = false;
+    call_in_hand = call_names[call];
+    counts_in_hand = counts;
+    w_in_hand = 0;
+}
+
+/* What a call is handed as a count may be beyond all memory; then buffers go by the circuit itself. */
+static size_t fields_for(size_t handed, size_t true_count, size_t ceiling)
+{
+    return handed <= ceiling ? handed : true_count;
+}
+
+static void must_read_as(const uint8_t *written, size_t bytes, chudravik_counts counts, const uint16_t *table)
+{
+    uint16_t word[WORDS_CEILING];
+    chudravik_read_answer again = chudravik_read(written, bytes, word, words_of(counts));
+    if (again.number != 0)
+        fail("what the library wrote it refuses to read, with %" PRIu32, again.number);
+    compare_counts(again.counts, counts);
+    if (memcmp(word, table, words_of(counts) * sizeof *word) != 0)
+        fail("what the library wrote it reads as other words");
+    see(READ_BACK, true);
+}
+
+static void must_write_and_read_alike(chudravik_counts counts, const uint16_t *table)
+{
+    uint8_t written[WRITTEN_CEILING];
+    chudravik_write_answer answer = chudravik_write(counts, table, words_of(counts), written, sizeof written);
+    if (answer.number != 0)
+        fail("what the library read it refuses to write, with %" PRIu32, answer.number);
+    must_read_as(written, answer.bytes, counts, table);
+}
+
+static void try_read(circuit *c)
+{
+    static text t;
+    make_circuit(c, 15);
+    begin(READ, c->counts);
+    make_text(&t, c);
+    lend_given(TEXT, t.byte, t.count);
+    lend_noise(TABLE, 2 * table_length_for(c));
+    chudravik_read_answer library = chudravik_read(of_library(TEXT), t.count, library_table(), table_words());
+    chudravik_read_answer simulator = simulate_read(of_simulator(TEXT), t.count, simulator_table(), table_words());
+    compare_number("number", library.number, simulator.number);
+    compare_counts(library.counts, simulator.counts);
+    compare_buffers();
+    note(READ, library.number, TEN_TABLE);
+    see_size(library.number, library.counts);
+    if (library.number == 0)
+        must_write_and_read_alike(library.counts, library_table());
+}
+
+static size_t text_length_for(const circuit *c)
+{
+    static text t;
+    t.count = 0;
+    append_circuit(&t, c, 0);
+    return chance(4) ? WRITTEN_CEILING - below(2) : length_for(t.count);
+}
+
+static void try_write(circuit *c)
+{
+    make_circuit(c, 15);
+    chudravik_counts counts = handed_counts(c);
+    begin(WRITE, counts);
+    lend_table(c);
+    lend_noise(TEXT, text_length_for(c));
+    chudravik_write_answer library =
+        chudravik_write(counts, library_table(), table_words(), of_library(TEXT), bytes_of(TEXT));
+    chudravik_write_answer simulator =
+        simulate_write(counts, simulator_table(), table_words(), of_simulator(TEXT), bytes_of(TEXT));
+    compare_number("number", library.number, simulator.number);
+    compare_number("bytes", library.bytes, simulator.bytes);
+    compare_buffers();
+    note(WRITE, library.number, table_words() < words_of(counts) ? TEN_TABLE : TEN_RESULT);
+    see_size(library.number, counts);
+    see(LONGEST_WRITTEN, library.bytes == WRITTEN_CEILING);
+    if (library.number == 0)
+        must_read_as(of_library(TEXT), library.bytes, counts, library_table());
+}
+
+static size_t ten_of_tick(chudravik_counts counts)
+{
+    if (table_words() < words_of(counts))
+        return TEN_TABLE;
+    bool state_short = bytes_of(STATE) < record_bytes(counts.latches);
+    return state_short || bytes_of(SWITCHES) < record_bytes(counts.inputs) ? TEN_GIVEN : TEN_RESULT;
+}
+
+/* With none in the given records there is none in the results: the tick is then the Boolean one. */
+static void look_for_unknown(chudravik_counts counts)
+{
+    bool ternary = has_unknown(of_library(STATE), counts.latches) || has_unknown(of_library(SWITCHES), counts.inputs);
+    bool out = has_unknown(of_library(NEXT), counts.latches) || has_unknown(of_library(LAMPS), counts.lamps);
+    if (out && !ternary)
+        fail("a tick without X gave X");
+    see(ternary ? TERNARY_TICK : BOOLEAN_TICK, true);
+}
+
+static void try_tick(circuit *c)
+{
+    make_circuit(c, 15);
+    chudravik_counts counts = handed_counts(c);
+    size_t inputs = fields_for(counts.inputs, c->counts.inputs, INPUTS_CEILING);
+    size_t latches = fields_for(counts.latches, c->counts.latches, LATCHES_CEILING);
+    size_t lamps = fields_for(counts.lamps, c->counts.lamps, LAMPS_CEILING);
+    begin(TICK, counts);
+    lend_table(c);
+    lend_record(STATE, latches);
+    lend_record(SWITCHES, inputs);
+    lend_noise(NEXT, length_for(record_bytes(latches)));
+    lend_noise(LAMPS, length_for(record_bytes(lamps)));
+    uint32_t library =
+        chudravik_tick(counts, library_table(), table_words(), of_library(STATE), bytes_of(STATE), of_library(SWITCHES),
+                       bytes_of(SWITCHES), of_library(NEXT), bytes_of(NEXT), of_library(LAMPS), bytes_of(LAMPS));
+    uint32_t simulator = simulate_tick(counts, simulator_table(), table_words(), of_simulator(STATE), bytes_of(STATE),
+                                       of_simulator(SWITCHES), bytes_of(SWITCHES), of_simulator(NEXT), bytes_of(NEXT),
+                                       of_simulator(LAMPS), bytes_of(LAMPS));
+    compare_number("number", library, simulator);
+    compare_buffers();
+    note(TICK, library, ten_of_tick(counts));
+    see_size(library, counts);
+    if (library == 0)
+        look_for_unknown(counts);
+}
+
+static size_t interval(void)
+{
+    if (troubled())
+        return ONE_OF(1000, 1001, 1002, 65536, (size_t)1 << 32, ((size_t)1 << 32) + 1, (size_t)1 << 63, SIZE_MAX,
+                      draw());
+    size_t any = below(1001);
+    return ONE_OF(0, 0, 0, 0, 1, 2, 3, 16, 4 + any % 37, 40 + any % 261, 999, 1000, any);
+}
+
+/* How many cubes the run would store, or fill all room with. */
+static size_t cubes_wanted(const circuit *c, size_t w)
+{
+    static uint16_t word[WORDS_CEILING];
+    static uint8_t cubes[CUBES_CEILING], verdict[LAMPS_CEILING], settled[LATCHES_CEILING];
+    lay_words(c, word);
+    return simulate_run(c->counts, word, WORDS_CEILING, w, cubes, sizeof cubes, verdict, sizeof verdict, settled,
+                        sizeof settled)
+        .cubes;
+}
+
+static size_t cubes_length(const circuit *c, size_t w, size_t record)
+{
+    if (troubled())
+        return ONE_OF(0, record - 1, record / 2, record, CUBES_CEILING, CUBES_CEILING + 1, CUBES_CEILING + record,
+                      LONGEST_BUFFER);
+    size_t slack = chance(50) ? 0 : below(record);
+    size_t roll = below(100);
+    size_t cubes = roll < 5 ? 1 : roll < 20 ? between(1, 12) : roll < 45 ? between(1, 150) : between(1, 1500);
+    if (roll >= 92)
+        return CUBES_CEILING - below(2);
+    if (roll >= 80) {
+        size_t exact = record * cubes_wanted(c, w);
+        return least_of(ONE_OF(exact - 1, exact, exact, exact + 1, exact + record), CUBES_CEILING);
+    }
+    return least_of(record * cubes + slack, CUBES_CEILING);
+}
+
+static bool has_pair(const uint8_t *record, size_t fields, unsigned pair)
+{
+    for (size_t i = 0; i < fields; i++)
+        if (pair_at(record, i) == pair)
+            return true;
+    return false;
+}
+
+static void see_run(chudravik_counts counts, size_t w, chudravik_run_answer run)
+{
+    bool closed = run.number == 0;
+    size_t record = record_bytes(counts.latches);
+    see(LONG_CLOSED, closed && run.cubes >= 100);
+    see(LONG_NO_ROOM, run.number == 15 && run.cubes >= 100);
+    if (run.cubes > most_cubes)
+        most_cubes = run.cubes;
+    if (!closed)
+        return;
+    see(CLOSED_FULL, run.cubes == bytes_of(CUBES) / record);
+    see(CLOSED_LATER, run.back > 0);
+    see(CLOSED_WIDENED, w != 0 && run.cubes > w);
+    see(SOME_SETTLED, run.settled > 0);
+    see(SOME_NEVER, has_pair(of_library(VERDICT), counts.lamps, 1));
+    see(SOME_ALWAYS, has_pair(of_library(VERDICT), counts.lamps, 2));
+}
+
+/* Each widening holds a latch more, for where none differs b is a and the run is closed; and once all are held the next
+ * cube is subsumed. */
+static void must_close_in_time(chudravik_counts counts, size_t w, chudravik_run_answer run)
+{
+    if (w == 0 || (run.number != 0 && run.number != 15))
+        return;
+    if (run.cubes > w * counts.latches + 1 || (run.number == 15 && run.cubes == w * counts.latches + 1))
+        fail("with w %zu a run of %zu latches did not close within w x L + 1 cubes", w, counts.latches);
+}
+
+static void compare_runs(chudravik_run_answer library, chudravik_run_answer simulator)
+{
+    compare_number("number", library.number, simulator.number);
+    compare_number("n", library.cubes, simulator.cubes);
+    compare_number("j", library.back, simulator.back);
+    compare_number("s", library.settled, simulator.settled);
+}
+
+static void try_run(circuit *c)
+{
+    make_circuit(c, 70);
+    chudravik_counts counts = handed_counts(c);
+    size_t latches = fields_for(counts.latches, c->counts.latches, LATCHES_CEILING);
+    size_t lamps = fields_for(counts.lamps, c->counts.lamps, LAMPS_CEILING);
+    begin(RUN, counts);
+    size_t w = w_in_hand = interval();
+    lend_table(c);
+    lend_noise(CUBES, cubes_length(c, w, record_bytes(latches)));
+    lend_noise(VERDICT, length_for(record_bytes(lamps)));
+    lend_noise(SETTLED, length_for(record_bytes(latches)));
+    chudravik_run_answer library =
+        chudravik_run(counts, library_table(), table_words(), w, of_library(CUBES), bytes_of(CUBES),
+                      of_library(VERDICT), bytes_of(VERDICT), of_library(SETTLED), bytes_of(SETTLED));
+    chudravik_run_answer simulator =
+        simulate_run(counts, simulator_table(), table_words(), w, of_simulator(CUBES), bytes_of(CUBES),
+                     of_simulator(VERDICT), bytes_of(VERDICT), of_simulator(SETTLED), bytes_of(SETTLED));
+    compare_runs(library, simulator);
+    compare_buffers();
+    note(RUN, library.number, table_words() < words_of(counts) ? TEN_TABLE : TEN_RESULT);
+    see_size(library.number, counts);
+    see_run(counts, w, library);
+    must_close_in_time(counts, w, library);
+}
+
+static void try_call(uint64_t number)
+{
+    static circuit c;
+    number_in_hand = number;
+    throw_dice(seed, number);
+    set_trouble();
+    size_t roll = below(100);
+    if (roll < 38)
+        try_read(&c);
+    else if (roll < 52)
+        try_write(&c);
+    else if (roll < 70)
+        try_tick(&c);
+    else
+        try_run(&c);
+}
+
+/* ---- at the end ---- */
+
+/* Sights are rarer than numbers, and no seed should fail by its luck. */
+enum { CALLS_ENOUGH = 20000, TIMES_DUE = 20, SIGHTS_DUE = 5 };
+
+static void print_outcome(const char *name, size_t outcome)
+{
+    printf("%-12s", name);
+    for (size_t call = 0; call < CALLS; call++)
+        if (can_give((enum call)call, outcome))
+            printf("%10" PRIu64, met[call][outcome]);
+        else
+            printf("%10s", "-");
+    putchar('\n');
+}
+
+static void print_met(void)
+{
+    printf("%-12s", "number");
+    for (size_t call = 0; call < CALLS; call++)
+        printf("%10s", call_names[call]);
+    putchar('\n');
+    for (size_t number = 0; number < 16; number++) {
+        char name[8];
+        snprintf(name, sizeof name, "%zu", number);
+        if (number != 10) {
+            print_outcome(name, number);
+            continue;
+        }
+        print_outcome("10 table", TEN_TABLE);
+        print_outcome("10 given", TEN_GIVEN);
+        print_outcome("10 result", TEN_RESULT);
+    }
+    for (size_t sight = 0; sight < SIGHTS; sight++)
+        printf("%10" PRIu64 "  %s\n", seen[sight], sight_names[sight]);
+    printf("%10zu  cubes in the longest run\n", most_cubes);
+}
+
+static size_t count_rare(void)
+{
+    size_t rare = 0;
+    for (size_t call = 0; call < CALLS; call++)
+        for (size_t outcome = 0; outcome < OUTCOMES; outcome++)
+            if (can_give((enum call)call, outcome) && met[call][outcome] < TIMES_DUE) {
+                fprintf(stderr, "differential: %s gave outcome %zu too seldom\n", call_names[call], outcome);
+                rare++;
+            }
+    for (size_t sight = 0; sight < SIGHTS; sight++)
+        if (seen[sight] < SIGHTS_DUE) {
+            fprintf(stderr, "differential: too seldom: %s\n", sight_names[sight]);
+            rare++;
+        }
+    return rare;
+}
+
+static uint64_t number_given(const char *digits)
+{
+    char *rest;
+    errno = 0;
+    unsigned long long number = strtoull(digits, &rest, 10);
+    if (errno != 0 || *digits < '0' || *digits > '9' || *rest != '\0') {
+        fprintf(stderr, "differential: not a number: %s\n", digits);
+        exit(2);
+    }
+    return number;
+}
+
+int main(int argc, char **argv)
+{
+    if (argc < 2 || argc > 4) {
+        fputs("usage: differential CALLS [SEED [FIRST]]\n", stderr);
+        return 2;
+    }
+    uint64_t calls = number_given(argv[1]);
+    seed = argc > 2 ? number_given(argv[2]) : 20240607;
+    uint64_t first = argc > 3 ? number_given(argv[3]) : 0;
+    printf("%" PRIu64 " calls, seed %" PRIu64 "\n", calls, seed);
+    fflush(stdout);
+    watch_signals();
+    take_memory();
+    for (uint64_t i = 0; i < calls; i++)
+        try_call(first + i);
+    print_met();
+    if (calls >= CALLS_ENOUGH && count_rare() > 0)
+        return 1;
+    puts("no difference");
+    return 0;
+}

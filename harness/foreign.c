@@ -1,0 +1,139 @@
+/* Circuits that another tool has written: foreign FILE..
+ *
+ * Each file must be read; written back, it must be the same text up to its comment; that text must read to the same
+ * counts and words; and the report program's run (w = 16, 65,536 bytes) must close or be refused by 15. One line a file
+ * goes to standard output, to be compared with the stored ones. Exits 1 on any failure. */
+#include <stdio.h>
+#include <string.h>
+
+#include "chudravik.h"
+
+enum { REPORT_INTERVAL = 16 };
+
+/* One byte more than is read at most, so that a longer file is seen to be longer. */
+static uint8_t text[CHUDRAVIK_MOST_TEXT + 1];
+static uint8_t written[CHUDRAVIK_MOST_WRITTEN];
+static uint16_t table[CHUDRAVIK_MOST_TABLE_WORDS];
+static uint16_t table_again[CHUDRAVIK_MOST_TABLE_WORDS];
+static uint8_t cubes[CHUDRAVIK_MOST_CUBE_BYTES];
+static uint8_t verdict[CHUDRAVIK_RECORD_BYTES(CHUDRAVIK_MOST_LAMPS)];
+static uint8_t settled[CHUDRAVIK_RECORD_BYTES(CHUDRAVIK_MOST_LATCHES)];
+
+static int failed(const char *path, const char *what, size_t number)
+{
+    fprintf(stderr, "foreign: %s: %s (%zu)\n", path, what, number);
+    return 0;
+}
+
+static int load(const char *path, size_t *text_bytes)
+{
+    FILE *file = fopen(path, "rb");
+    if (file == NULL)
+        return failed(path, "cannot be opened", 0);
+    *text_bytes = fread(text, 1, sizeof text, file);
+    int broken = ferror(file);
+    fclose(file);
+    return broken ? failed(path, "cannot be loaded", 0) : 1;
+}
+
+/* The comment starts with the first line that is just `c`: no line of a circuit is. */
+static size_t bytes_before_comment(size_t text_bytes)
+{
+    size_t line = 0;
+    while (line < text_bytes) {
+        const uint8_t *end = memchr(text + line, '\n', text_bytes - line);
+        size_t next = end == NULL ? text_bytes : (size_t)(end - text) + 1;
+        if (next - line == 2 && text[line] == 'c')
+            return line;
+        line = next;
+    }
+    return text_bytes;
+}
+
+/* Scope document, "Text": written text gives the reset only where it is 1, and no comment. The tool leaves out a reset
+ * of 0 as well, so nothing but the comment may differ. */
+static int same_when_written(const char *path, chudravik_counts counts, size_t text_bytes, size_t *written_bytes)
+{
+    size_t words = CHUDRAVIK_TABLE_WORDS(counts.latches, counts.lamps, counts.gates);
+    chudravik_write_answer answer = chudravik_write(counts, table, words, written, sizeof written);
+    if (answer.number != CHUDRAVIK_ACCEPTED)
+        return failed(path, "refused by the writer", answer.number);
+    *written_bytes = answer.bytes;
+    size_t due = bytes_before_comment(text_bytes);
+    if (answer.bytes != due)
+        return failed(path, "written with another length", answer.bytes);
+    for (size_t i = 0; i < due; i++)
+        if (written[i] != text[i])
+            return failed(path, "written with another byte in this place", i);
+    return 1;
+}
+
+static int same_when_read_again(const char *path, chudravik_counts counts, size_t written_bytes)
+{
+    size_t words = CHUDRAVIK_TABLE_WORDS(counts.latches, counts.lamps, counts.gates);
+    memset(table_again, 0xff, sizeof table_again);
+    chudravik_read_answer again = chudravik_read(written, written_bytes, table_again, words);
+    if (again.number != CHUDRAVIK_ACCEPTED)
+        return failed(path, "refused when read again", again.number);
+    if (again.counts.inputs != counts.inputs || again.counts.latches != counts.latches ||
+        again.counts.lamps != counts.lamps || again.counts.gates != counts.gates)
+        return failed(path, "read again with other counts", 0);
+    if (memcmp(table, table_again, words * sizeof table[0]) != 0)
+        return failed(path, "read again with other words", 0);
+    return 1;
+}
+
+static int print_verdicts(const char *path, size_t lamps)
+{
+    static const char *const words[] = {"open", "never", "always"};
+    for (size_t lamp = 0; lamp < lamps; lamp++) {
+        unsigned field = CHUDRAVIK_FIELD(verdict, lamp);
+        if (field >= sizeof words / sizeof words[0])
+            return failed(path, "pair 11 in the verdict of this lamp", lamp);
+        printf(" %s", words[field]);
+    }
+    putchar('\n');
+    return 1;
+}
+
+static int report_run(const char *path, chudravik_counts counts)
+{
+    const char *slash = strrchr(path, '/');
+    size_t words = CHUDRAVIK_TABLE_WORDS(counts.latches, counts.lamps, counts.gates);
+    chudravik_run_answer run = chudravik_run(counts, table, words, REPORT_INTERVAL, cubes, sizeof cubes, verdict,
+                                             sizeof verdict, settled, sizeof settled);
+    if (run.number != CHUDRAVIK_ACCEPTED && run.number != CHUDRAVIK_NO_ROOM)
+        return failed(path, "refused by the run", run.number);
+    printf("%s inputs %zu latches %zu lamps %zu gates %zu", slash == NULL ? path : slash + 1, counts.inputs,
+           counts.latches, counts.lamps, counts.gates);
+    if (run.number == CHUDRAVIK_NO_ROOM) {
+        printf(" refused 15 cubes %zu\n", run.cubes);
+        return 1;
+    }
+    printf(" cubes %zu back %zu settled %zu:", run.cubes, run.back, run.settled);
+    return print_verdicts(path, counts.lamps);
+}
+
+static int examine(const char *path)
+{
+    size_t text_bytes = 0, written_bytes = 0;
+    if (!load(path, &text_bytes))
+        return 0;
+    chudravik_read_answer answer = chudravik_read(text, text_bytes, table, CHUDRAVIK_MOST_TABLE_WORDS);
+    if (answer.number != CHUDRAVIK_ACCEPTED)
+        return failed(path, "refused by the reader", answer.number);
+    return same_when_written(path, answer.counts, text_bytes, &written_bytes) &&
+           same_when_read_again(path, answer.counts, written_bytes) && report_run(path, answer.counts);
+}
+
+int main(int argc, char **argv)
+{
+    if (argc < 2) {
+        fprintf(stderr, "usage: foreign FILE..\n");
+        return 1;
+    }
+    int good = 1;
+    for (int i = 1; i < argc; i++)
+        good &= examine(argv[i]);
+    return good && fflush(stdout) == 0 ? 0 : 1;
+}

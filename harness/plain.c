@@ -1,0 +1,663 @@
+/* The four calls in plain C (plain.h). Quotations are from document 01. */
+#include "plain.h"
+
+#include <stdbool.h>
+#include <string.h>
+
+enum {
+    VARIABLES = CHUDRAVIK_MOST_VARIABLES + 1, /* "a working table of 4,096 values" */
+    MOST_RECORD = CHUDRAVIK_RECORD_BYTES(CHUDRAVIK_MOST_LATCHES),
+    MOST_LAMP_RECORD = CHUDRAVIK_RECORD_BYTES(CHUDRAVIK_MOST_LAMPS)
+};
+
+/* ---- values and records ---- */
+
+/* "0 with anything is 0, 1 with 1 is 1, the rest X" */
+static const uint8_t AND[3][3] = {{0, 1, 0}, {1, 1, 1}, {0, 1, 2}};
+
+/* A literal's value, by its last bit and its variable's value: "Inverting swaps 0 and 1 and keeps X." */
+static const uint8_t LITERAL[2][3] = {{0, 1, 2}, {0, 2, 1}};
+
+/* "the count of its known fields, or 255 where some pair is 11" */
+#define BAD 255
+#define BAD_4 BAD, BAD, BAD, BAD
+#define BAD_16 BAD_4, BAD_4, BAD_4, BAD_4
+#define BAD_64 BAD_16, BAD_16, BAD_16, BAD_16
+#define KNOWN_4(n) (n), (n) + 1, (n) + 1, BAD
+#define KNOWN_16(n) KNOWN_4(n), KNOWN_4((n) + 1), KNOWN_4((n) + 1), BAD_4
+#define KNOWN_64(n) KNOWN_16(n), KNOWN_16((n) + 1), KNOWN_16((n) + 1), BAD_16
+static const uint8_t KNOWN[256] = {KNOWN_64(0), KNOWN_64(1), KNOWN_64(1), BAD_64};
+
+static size_t record_length(size_t fields)
+{
+    return CHUDRAVIK_RECORD_BYTES(fields);
+}
+
+static uint8_t byte_of(uint8_t a, uint8_t b, uint8_t c, uint8_t d)
+{
+    return (uint8_t)(a << 6 | b << 4 | c << 2 | d);
+}
+
+/* "a pair 11, or a leftover bit set, in a given record" */
+static bool sound(const uint8_t *record, size_t fields)
+{
+    size_t length = record_length(fields);
+    for (size_t k = 0; k < length; k++) {
+        if (KNOWN[record[k]] == BAD) {
+            return false;
+        }
+    }
+    unsigned leftover = 2 * (unsigned)(4 * length - fields);
+    return (record[length - 1] & ((1u << leftover) - 1)) == 0;
+}
+
+static size_t known_fields(const uint8_t *record, size_t fields)
+{
+    size_t count = 0;
+    for (size_t k = 0; k < record_length(fields); k++) {
+        count += KNOWN[record[k]];
+    }
+    return count;
+}
+
+/* Keeps what is known alike in both. */
+static void agree(uint8_t *restrict record, const uint8_t *restrict other, size_t length)
+{
+    for (size_t k = 0; k < length; k++) {
+        record[k] &= other[k];
+    }
+}
+
+/* ---- the table ---- */
+
+static bool counts_kept(const chudravik_counts *counts)
+{
+    return counts->inputs <= CHUDRAVIK_MOST_INPUTS && counts->latches <= CHUDRAVIK_MOST_LATCHES &&
+           counts->lamps <= CHUDRAVIK_MOST_LAMPS && counts->gates <= CHUDRAVIK_MOST_GATES;
+}
+
+static size_t variables_of(const chudravik_counts *counts)
+{
+    return counts->inputs + counts->latches + counts->gates;
+}
+
+static size_t table_length(const chudravik_counts *counts)
+{
+    return CHUDRAVIK_TABLE_WORDS(counts->latches, counts->lamps, counts->gates);
+}
+
+static const uint16_t *lamps_of(const chudravik_counts *counts, const uint16_t *table)
+{
+    return table + 2 * counts->latches;
+}
+
+static const uint16_t *gates_of(const chudravik_counts *counts, const uint16_t *table)
+{
+    return lamps_of(counts, table) + counts->lamps;
+}
+
+/* Rules 6, 7 and 8. */
+static bool rules_kept(const chudravik_counts *counts, const uint16_t *table)
+{
+    size_t most = 2 * variables_of(counts) + 1;
+    for (size_t i = 0; i < counts->latches; i++) {
+        if (table[2 * i] > most || table[2 * i + 1] > 1) {
+            return false;
+        }
+    }
+    const uint16_t *lamps = lamps_of(counts, table);
+    for (size_t i = 0; i < counts->lamps; i++) {
+        if (lamps[i] > most) {
+            return false;
+        }
+    }
+    const uint16_t *gates = gates_of(counts, table);
+    size_t own = 2 * (1 + counts->inputs + counts->latches);
+    for (size_t i = 0; i < counts->gates; i++, own += 2) {
+        if (gates[2 * i] >= own || gates[2 * i + 1] >= own) {
+            return false;
+        }
+    }
+    return true;
+}
+
+/* "3, 10 for the table, 11" */
+static uint32_t circuit_refusal(const chudravik_counts *counts, const uint16_t *table, size_t table_words)
+{
+    if (!counts_kept(counts)) {
+        return CHUDRAVIK_COUNTS;
+    }
+    if (table_words < table_length(counts)) {
+        return CHUDRAVIK_TOO_SHORT;
+    }
+    if (!rules_kept(counts, table)) {
+        return CHUDRAVIK_TABLE;
+    }
+    return CHUDRAVIK_ACCEPTED;
+}
+
+/* ---- one pass over the gates ---- */
+
+static uint8_t literal(const uint8_t *values, uint16_t x)
+{
+    return LITERAL[x % 2][values[x / 2]];
+}
+
+/* "Gates are taken in order", the first of them variable `first`. */
+static void pass(const uint16_t *restrict gates, size_t first, size_t count, uint8_t *restrict values)
+{
+    for (size_t i = 0; i < count; i++) {
+        values[first + i] = AND[literal(values, gates[2 * i])][literal(values, gates[2 * i + 1])];
+    }
+}
+
+/* The fields of a record as the values of the variables from `first` on. */
+static void load(const uint8_t *restrict record, size_t first, size_t count, uint8_t *restrict values)
+{
+    for (size_t i = 0; i < count; i++) {
+        values[first + i] = CHUDRAVIK_FIELD(record, i);
+    }
+}
+
+static void settle_state(const chudravik_counts *counts, const uint16_t *table, const uint8_t *state, uint8_t *values)
+{
+    size_t first = 1 + counts->inputs;
+    load(state, first, counts->latches, values);
+    pass(gates_of(counts, table), first + counts->latches, counts->gates, values);
+}
+
+/* The record of `count` literals' values, one literal every `step` words. */
+static void store(const uint8_t *restrict values, const uint16_t *restrict literals, size_t step, size_t count,
+                  uint8_t *restrict out)
+{
+    size_t whole = count / 4;
+    for (size_t k = 0; k < whole; k++, literals += 4 * step) {
+        out[k] = byte_of(literal(values, literals[0]), literal(values, literals[step]),
+                         literal(values, literals[2 * step]), literal(values, literals[3 * step]));
+    }
+    size_t rest = count % 4;
+    if (rest != 0 || count == 0) {
+        uint8_t a = rest > 0 ? literal(values, literals[0]) : CHUDRAVIK_UNKNOWN;
+        uint8_t b = rest > 1 ? literal(values, literals[step]) : CHUDRAVIK_UNKNOWN;
+        uint8_t c = rest > 2 ? literal(values, literals[2 * step]) : CHUDRAVIK_UNKNOWN;
+        out[whole] = byte_of(a, b, c, CHUDRAVIK_UNKNOWN);
+    }
+}
+
+static void store_next(const chudravik_counts *counts, const uint16_t *table, const uint8_t *values, uint8_t *out)
+{
+    store(values, table, 2, counts->latches, out);
+}
+
+static void store_lamps(const chudravik_counts *counts, const uint16_t *table, const uint8_t *values, uint8_t *out)
+{
+    store(values, lamps_of(counts, table), 1, counts->lamps, out);
+}
+
+/* ---- the tick ---- */
+
+uint32_t plain_tick(chudravik_counts counts, const uint16_t *table, size_t table_words, const uint8_t *state,
+                    size_t state_bytes, const uint8_t *switches, size_t switches_bytes, uint8_t *next,
+                    size_t next_bytes, uint8_t *lamps, size_t lamps_bytes)
+{
+    uint32_t number = circuit_refusal(&counts, table, table_words);
+    if (number != CHUDRAVIK_ACCEPTED) {
+        return number;
+    }
+    if (state_bytes < record_length(counts.latches) || switches_bytes < record_length(counts.inputs)) {
+        return CHUDRAVIK_TOO_SHORT;
+    }
+    if (!sound(state, counts.latches) || !sound(switches, counts.inputs)) {
+        return CHUDRAVIK_RECORD;
+    }
+    if (next_bytes < record_length(counts.latches) || lamps_bytes < record_length(counts.lamps)) {
+        return CHUDRAVIK_TOO_SHORT;
+    }
+    uint8_t values[VARIABLES] = {CHUDRAVIK_LOW}; /* "entry 0 the constant" */
+    load(switches, 1, counts.inputs, values);
+    settle_state(&counts, table, state, values);
+    store_next(&counts, table, values, next);
+    store_lamps(&counts, table, values, lamps);
+    return CHUDRAVIK_ACCEPTED;
+}
+
+/* ---- the run ---- */
+
+/* "how many cubes are stored, which latches are held unknown": a held latch has the pair 11. */
+typedef struct {
+    size_t count;
+    uint8_t held[MOST_RECORD];
+} progress;
+
+/* "Cube 0 is the resets." */
+static void store_start(const uint16_t *table, size_t latches, uint8_t *cube)
+{
+    memset(cube, 0, record_length(latches));
+    for (size_t i = 0; i < latches; i++) {
+        uint8_t reset = table[2 * i + 1] == 0 ? CHUDRAVIK_LOW : CHUDRAVIK_HIGH;
+        cube[i / 4] |= (uint8_t)(reset << (6 - 2 * (i % 4)));
+    }
+}
+
+/* "b is the next state of a, with held latches set to X." */
+static void reach(const chudravik_counts *counts, const uint16_t *table, const uint8_t *a, const uint8_t *held,
+                  uint8_t *values, uint8_t *b)
+{
+    settle_state(counts, table, a, values);
+    store_next(counts, table, values, b);
+    for (size_t i = 0; i < record_length(counts->latches); i++) {
+        b[i] &= (uint8_t)~held[i];
+    }
+}
+
+/* "the first stored cube that subsumes b, meaning that every known field in it is known alike in b": n if none does. */
+static size_t search(const uint8_t *cubes, size_t length, size_t n, const uint8_t *b)
+{
+    for (size_t k = 0; k < n; k++, cubes += length) {
+        size_t i = 0;
+        while (i < length && (cubes[i] & b[i]) == cubes[i]) {
+            i++;
+        }
+        if (i == length) {
+            return k;
+        }
+    }
+    return n;
+}
+
+/* Holds every latch whose value in a and b differs. */
+static void widen(uint8_t *restrict held, const uint8_t *restrict a, const uint8_t *restrict b, size_t length)
+{
+    for (size_t i = 0; i < length; i++) {
+        uint8_t differing = a[i] ^ b[i];
+        held[i] |= (uint8_t)(3 * ((differing | differing >> 1) & 0x55));
+    }
+}
+
+/* Stores b as the next cube, behind a; "If w is not 0 and divides k" it is widened first. */
+static void advance(progress *run, const uint8_t *restrict a, const uint8_t *restrict b, size_t length, size_t w,
+                    uint8_t *restrict cube)
+{
+    if (w != 0 && run->count % w == 0) {
+        widen(run->held, a, b, length);
+    }
+    for (size_t i = 0; i < length; i++) {
+        cube[i] = (uint8_t)(b[i] & ~run->held[i]);
+    }
+    run->count++;
+}
+
+/* Stores cubes until one falls inside cube *back, or there is no room; answers whether it is closed. */
+static bool follow(const chudravik_counts *counts, const uint16_t *table, size_t w, uint8_t *cubes, size_t room,
+                   size_t *count, size_t *back)
+{
+    size_t length = record_length(counts->latches);
+    uint8_t values[VARIABLES] = {CHUDRAVIK_LOW};
+    uint8_t b[MOST_RECORD];
+    progress run = {.count = 1};
+    store_start(table, counts->latches, cubes);
+    for (;;) {
+        uint8_t *end = cubes + run.count * length;
+        reach(counts, table, end - length, run.held, values, b);
+        *count = run.count;
+        *back = search(cubes, length, run.count, b);
+        if (*back < run.count) {
+            return true;
+        }
+        if (run.count == room) {
+            return false;
+        }
+        advance(&run, end - length, b, length, w, end);
+    }
+}
+
+/* "per lamp 01 (never) if 0 in all n cubes, 10 (always) if 1 in all, else 00 (open)" */
+static void judge_lamps(const chudravik_counts *counts, const uint16_t *table, const uint8_t *cubes, size_t n,
+                        uint8_t *verdict)
+{
+    size_t length = record_length(counts->latches);
+    uint8_t values[VARIABLES] = {CHUDRAVIK_LOW};
+    uint8_t lamps[MOST_LAMP_RECORD];
+    settle_state(counts, table, cubes, values);
+    store_lamps(counts, table, values, verdict);
+    for (size_t k = 1; k < n; k++) {
+        settle_state(counts, table, cubes + k * length, values);
+        store_lamps(counts, table, values, lamps);
+        agree(verdict, lamps, record_length(counts->lamps));
+    }
+}
+
+/* "per latch the known value shared by cubes j to n - 1, else 00" */
+static void settle_latches(const uint8_t *cubes, size_t length, size_t n, size_t j, uint8_t *settled)
+{
+    memcpy(settled, cubes + j * length, length);
+    for (size_t k = j + 1; k < n; k++) {
+        agree(settled, cubes + k * length, length);
+    }
+}
+
+static uint32_t run_refusal(const chudravik_counts *counts, const uint16_t *table, size_t table_words, size_t w,
+                            size_t cubes_bytes, size_t verdict_bytes, size_t settled_bytes)
+{
+    uint32_t number = circuit_refusal(counts, table, table_words);
+    if (number != CHUDRAVIK_ACCEPTED) {
+        return number;
+    }
+    if (w > CHUDRAVIK_MOST_INTERVAL) {
+        return CHUDRAVIK_INTERVAL;
+    }
+    size_t length = record_length(counts->latches);
+    if (cubes_bytes < length || cubes_bytes > CHUDRAVIK_MOST_CUBE_BYTES) {
+        return CHUDRAVIK_CUBE_BUFFER;
+    }
+    if (verdict_bytes < record_length(counts->lamps) || settled_bytes < length) {
+        return CHUDRAVIK_TOO_SHORT;
+    }
+    return CHUDRAVIK_ACCEPTED;
+}
+
+chudravik_run_answer plain_run(chudravik_counts counts, const uint16_t *table, size_t table_words, size_t w,
+                               uint8_t *cubes, size_t cubes_bytes, uint8_t *verdict, size_t verdict_bytes,
+                               uint8_t *settled, size_t settled_bytes)
+{
+    chudravik_run_answer answer = {0};
+    answer.number = run_refusal(&counts, table, table_words, w, cubes_bytes, verdict_bytes, settled_bytes);
+    if (answer.number != CHUDRAVIK_ACCEPTED) {
+        return answer;
+    }
+    size_t length = record_length(counts.latches);
+    size_t n, j;
+    bool closed = follow(&counts, table, w, cubes, cubes_bytes / length, &n, &j);
+    answer.cubes = n;
+    if (!closed) {
+        answer.number = CHUDRAVIK_NO_ROOM;
+        return answer;
+    }
+    judge_lamps(&counts, table, cubes, n, verdict);
+    settle_latches(cubes, length, n, j, settled);
+    answer.back = j;
+    answer.settled = known_fields(settled, counts.latches);
+    return answer;
+}
+
+/* ---- the reader ---- */
+
+static bool digit_at(const uint8_t *at, const uint8_t *end)
+{
+    return at < end && *at >= '0' && *at <= '9';
+}
+
+/* "one to five digits and no leading zero except `0` itself"; *at goes behind it. */
+static bool read_number(const uint8_t **at, const uint8_t *end, size_t *number)
+{
+    const uint8_t *p = *at;
+    if (!digit_at(p, end)) {
+        return false;
+    }
+    size_t value = *p++ - '0';
+    for (; digit_at(p, end); p++) {
+        if (value == 0 || value >= 10000) {
+            return false;
+        }
+        value = 10 * value + (*p - '0');
+    }
+    *number = value;
+    *at = p;
+    return true;
+}
+
+/* A line's numbers, at most `most` of them, and how many there are: 0 for an ill-formed line. *at goes behind it. */
+static size_t read_line(const uint8_t **at, const uint8_t *end, size_t most, size_t *numbers)
+{
+    for (size_t k = 0; k < most; k++) {
+        if (!read_number(at, end, &numbers[k]) || *at == end) {
+            return 0;
+        }
+        uint8_t behind = *(*at)++;
+        if (behind == '\n') {
+            return k + 1;
+        }
+        if (behind != ' ') {
+            return 0;
+        }
+    }
+    return 0;
+}
+
+/* "The file opens with the four bytes `aag` and a space, then M I L O A and a newline." */
+static uint32_t read_header(const uint8_t **at, const uint8_t *end, chudravik_counts *counts)
+{
+    size_t numbers[5];
+    if (end - *at < 4 || memcmp(*at, "aag ", 4) != 0) {
+        return CHUDRAVIK_FIRST_LINE;
+    }
+    *at += 4;
+    if (read_line(at, end, 5, numbers) != 5) {
+        return CHUDRAVIK_FIRST_LINE;
+    }
+    *counts = (chudravik_counts){numbers[1], numbers[2], numbers[3], numbers[4]};
+    if (!counts_kept(counts) || numbers[0] != variables_of(counts)) {
+        return CHUDRAVIK_COUNTS;
+    }
+    return CHUDRAVIK_ACCEPTED;
+}
+
+static uint32_t judge_input(const uint8_t **at, const uint8_t *end, size_t own)
+{
+    size_t numbers[1];
+    if (read_line(at, end, 1, numbers) != 1) {
+        return CHUDRAVIK_BODY_LINE;
+    }
+    return numbers[0] == own ? CHUDRAVIK_ACCEPTED : CHUDRAVIK_OWN_LITERAL;
+}
+
+static uint32_t judge_latch(const uint8_t **at, const uint8_t *end, size_t own, size_t most)
+{
+    size_t numbers[3];
+    size_t count = read_line(at, end, 3, numbers);
+    if (count < 2) {
+        return CHUDRAVIK_BODY_LINE;
+    }
+    if (numbers[0] != own) {
+        return CHUDRAVIK_OWN_LITERAL;
+    }
+    if (numbers[1] > most) {
+        return CHUDRAVIK_LITERAL_TOO_LARGE;
+    }
+    return count == 3 && numbers[2] > 1 ? CHUDRAVIK_RESET : CHUDRAVIK_ACCEPTED;
+}
+
+static uint32_t judge_lamp(const uint8_t **at, const uint8_t *end, size_t most)
+{
+    size_t numbers[1];
+    if (read_line(at, end, 1, numbers) != 1) {
+        return CHUDRAVIK_BODY_LINE;
+    }
+    return numbers[0] > most ? CHUDRAVIK_LITERAL_TOO_LARGE : CHUDRAVIK_ACCEPTED;
+}
+
+static uint32_t judge_gate(const uint8_t **at, const uint8_t *end, size_t own, size_t most)
+{
+    size_t numbers[3];
+    if (read_line(at, end, 3, numbers) != 3) {
+        return CHUDRAVIK_BODY_LINE;
+    }
+    if (numbers[0] != own) {
+        return CHUDRAVIK_OWN_LITERAL;
+    }
+    if (numbers[1] > most || numbers[2] > most) {
+        return CHUDRAVIK_LITERAL_TOO_LARGE;
+    }
+    return numbers[1] >= own || numbers[2] >= own ? CHUDRAVIK_OPERAND_NOT_BELOW : CHUDRAVIK_ACCEPTED;
+}
+
+/* "the end of the text, or a line that is just `c`, after which everything is skipped" */
+static bool ended(const uint8_t *at, const uint8_t *end)
+{
+    return at == end || (end - at >= 2 && at[0] == 'c' && at[1] == '\n');
+}
+
+/* "line by line (4, 5, 6, then 7 or 8), 9" */
+static uint32_t judge_body(const uint8_t *at, const uint8_t *end, const chudravik_counts *counts)
+{
+    size_t most = 2 * variables_of(counts) + 1;
+    size_t own = 2;
+    uint32_t number = CHUDRAVIK_ACCEPTED;
+    for (size_t i = 0; i < counts->inputs && number == CHUDRAVIK_ACCEPTED; i++, own += 2) {
+        number = judge_input(&at, end, own);
+    }
+    for (size_t i = 0; i < counts->latches && number == CHUDRAVIK_ACCEPTED; i++, own += 2) {
+        number = judge_latch(&at, end, own, most);
+    }
+    for (size_t i = 0; i < counts->lamps && number == CHUDRAVIK_ACCEPTED; i++) {
+        number = judge_lamp(&at, end, most);
+    }
+    for (size_t i = 0; i < counts->gates && number == CHUDRAVIK_ACCEPTED; i++, own += 2) {
+        number = judge_gate(&at, end, own, most);
+    }
+    if (number != CHUDRAVIK_ACCEPTED) {
+        return number;
+    }
+    return ended(at, end) ? CHUDRAVIK_ACCEPTED : CHUDRAVIK_TRAILING;
+}
+
+/* The words of a body that nothing refuses. */
+static void fill(const uint8_t *at, const uint8_t *end, const chudravik_counts *counts, uint16_t *restrict table)
+{
+    size_t numbers[3];
+    for (size_t i = 0; i < counts->inputs; i++) {
+        read_line(&at, end, 1, numbers);
+    }
+    for (size_t i = 0; i < counts->latches; i++) {
+        size_t count = read_line(&at, end, 3, numbers);
+        *table++ = (uint16_t)numbers[1];
+        *table++ = count == 3 ? (uint16_t)numbers[2] : 0;
+    }
+    for (size_t i = 0; i < counts->lamps; i++) {
+        read_line(&at, end, 1, numbers);
+        *table++ = (uint16_t)numbers[0];
+    }
+    for (size_t i = 0; i < counts->gates; i++) {
+        read_line(&at, end, 3, numbers);
+        *table++ = (uint16_t)numbers[1];
+        *table++ = (uint16_t)numbers[2];
+    }
+}
+
+static chudravik_read_answer read_refused(uint32_t number)
+{
+    return (chudravik_read_answer){.number = number};
+}
+
+chudravik_read_answer plain_read(const uint8_t *text, size_t text_bytes, uint16_t *table, size_t table_words)
+{
+    if (text_bytes > CHUDRAVIK_MOST_TEXT) {
+        return read_refused(CHUDRAVIK_TEXT_TOO_LONG);
+    }
+    const uint8_t *body = text;
+    const uint8_t *end = text + text_bytes;
+    chudravik_counts counts;
+    uint32_t number = read_header(&body, end, &counts);
+    if (number == CHUDRAVIK_ACCEPTED) {
+        number = judge_body(body, end, &counts);
+    }
+    if (number != CHUDRAVIK_ACCEPTED) {
+        return read_refused(number);
+    }
+    if (table_words < table_length(&counts)) {
+        return read_refused(CHUDRAVIK_TOO_SHORT);
+    }
+    fill(body, end, &counts, table);
+    return (chudravik_read_answer){CHUDRAVIK_ACCEPTED, counts};
+}
+
+/* ---- the writer ---- */
+
+/* No number of a text has more than four digits: 2M + 1 is at most 8,191. */
+static size_t digits(size_t n)
+{
+    return n < 10 ? 1 : n < 100 ? 2 : n < 1000 ? 3 : 4;
+}
+
+/* A number and the byte behind it; answers the place behind both. */
+static uint8_t *put_number(uint8_t *at, size_t n, uint8_t behind)
+{
+    size_t length = digits(n);
+    for (size_t k = length; k-- > 0; n /= 10) {
+        at[k] = (uint8_t)('0' + n % 10);
+    }
+    at[length] = behind;
+    return at + length + 1;
+}
+
+/* What the text takes: each number, and the byte behind it. */
+static size_t text_length(const chudravik_counts *counts, const uint16_t *table)
+{
+    size_t length = 4 + digits(variables_of(counts)) + digits(counts->inputs) + digits(counts->latches) +
+                    digits(counts->lamps) + digits(counts->gates) + 5;
+    size_t own = 2;
+    for (size_t i = 0; i < counts->inputs; i++, own += 2) {
+        length += digits(own) + 1;
+    }
+    for (size_t i = 0; i < counts->latches; i++, own += 2, table += 2) {
+        length += digits(own) + digits(table[0]) + 2 + (table[1] == 0 ? 0 : 2);
+    }
+    for (size_t i = 0; i < counts->lamps; i++, table++) {
+        length += digits(table[0]) + 1;
+    }
+    for (size_t i = 0; i < counts->gates; i++, own += 2, table += 2) {
+        length += digits(own) + digits(table[0]) + digits(table[1]) + 3;
+    }
+    return length;
+}
+
+static uint8_t *put_header(uint8_t *at, const chudravik_counts *counts)
+{
+    memcpy(at, "aag ", 4);
+    at = put_number(at + 4, variables_of(counts), ' ');
+    at = put_number(at, counts->inputs, ' ');
+    at = put_number(at, counts->latches, ' ');
+    at = put_number(at, counts->lamps, ' ');
+    return put_number(at, counts->gates, '\n');
+}
+
+/* "one line for each input, latch, lamp and gate, in that order" */
+static void put_body(uint8_t *restrict at, const chudravik_counts *counts, const uint16_t *restrict table)
+{
+    size_t own = 2;
+    for (size_t i = 0; i < counts->inputs; i++, own += 2) {
+        at = put_number(at, own, '\n');
+    }
+    for (size_t i = 0; i < counts->latches; i++, own += 2, table += 2) {
+        at = put_number(at, own, ' ');
+        if (table[1] == 0) { /* "the reset only where it is 1" */
+            at = put_number(at, table[0], '\n');
+        } else {
+            at = put_number(at, table[0], ' ');
+            at = put_number(at, table[1], '\n');
+        }
+    }
+    for (size_t i = 0; i < counts->lamps; i++, table++) {
+        at = put_number(at, table[0], '\n');
+    }
+    for (size_t i = 0; i < counts->gates; i++, own += 2, table += 2) {
+        at = put_number(at, own, ' ');
+        at = put_number(at, table[0], ' ');
+        at = put_number(at, table[1], '\n');
+    }
+}
+
+chudravik_write_answer plain_write(chudravik_counts counts, const uint16_t *table, size_t table_words, uint8_t *text,
+                                   size_t text_bytes)
+{
+    uint32_t number = circuit_refusal(&counts, table, table_words);
+    if (number != CHUDRAVIK_ACCEPTED) {
+        return (chudravik_write_answer){number, 0};
+    }
+    size_t length = text_length(&counts, table);
+    if (text_bytes < length) {
+        return (chudravik_write_answer){CHUDRAVIK_TOO_SHORT, 0};
+    }
+    put_body(put_header(text, &counts), &counts, table);
+    return (chudravik_write_answer){CHUDRAVIK_ACCEPTED, length};
+}

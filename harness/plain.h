@@ -1,0 +1,21 @@
+/* The four calls of chudravik.h once more, in plain C and unproved: what the benchmark measures the library against.
+ * Each does what its namesake does, by the same algorithm over the same data. */
+#ifndef PLAIN_H
+#define PLAIN_H
+
+#include "chudravik.h"
+
+chudravik_read_answer plain_read(const uint8_t *text, size_t text_bytes, uint16_t *table, size_t table_words);
+
+chudravik_write_answer plain_write(chudravik_counts counts, const uint16_t *table, size_t table_words, uint8_t *text,
+                                   size_t text_bytes);
+
+uint32_t plain_tick(chudravik_counts counts, const uint16_t *table, size_t table_words, const uint8_t *state,
+                    size_t state_bytes, const uint8_t *switches, size_t switches_bytes, uint8_t *next,
+                    size_t next_bytes, uint8_t *lamps, size_t lamps_bytes);
+
+chudravik_run_answer plain_run(chudravik_counts counts, const uint16_t *table, size_t table_words, size_t w,
+                               uint8_t *cubes, size_t cubes_bytes, uint8_t *verdict, size_t verdict_bytes,
+                               uint8_t *settled, size_t settled_bytes);
+
+#endif

@@ -1,0 +1,677 @@
+/* See simulator.h. Sections are named after those of the document. */
+#include "simulator.h"
+
+#include <stdarg.h>
+#include <stdbool.h>
+#include <stdio.h>
+#include <stdlib.h>
+#include <string.h>
+
+/* ---- circuit ---- */
+
+enum {
+    INPUTS_CEILING = 256,
+    LATCHES_CEILING = 512,
+    LAMPS_CEILING = 64,
+    GATES_CEILING = 3327,
+    VARIABLES_CEILING = 4095,
+    TEXT_CEILING = 60000,
+    INTERVAL_CEILING = 1000,
+    CUBES_CEILING = 65536
+};
+
+typedef struct {
+    size_t next;
+    size_t reset;
+} latch;
+
+typedef struct {
+    size_t left;
+    size_t right;
+} gate;
+
+typedef struct {
+    size_t inputs, latches, lamps, gates;
+    latch latch[LATCHES_CEILING];
+    size_t lamp[LAMPS_CEILING];
+    gate gate[GATES_CEILING];
+} circuit;
+
+static void *must(void *memory)
+{
+    if (memory == NULL) {
+        fputs("simulator: no memory\n", stderr);
+        exit(2);
+    }
+    return memory;
+}
+
+/* Each ceiling by itself, so that no sum of counts is ever taken that could wrap. */
+static bool within_ceilings(chudravik_counts counts)
+{
+    return counts.inputs <= INPUTS_CEILING && counts.latches <= LATCHES_CEILING && counts.lamps <= LAMPS_CEILING &&
+           counts.gates <= GATES_CEILING;
+}
+
+static void set_counts(circuit *c, chudravik_counts counts)
+{
+    c->inputs = counts.inputs;
+    c->latches = counts.latches;
+    c->lamps = counts.lamps;
+    c->gates = counts.gates;
+}
+
+static size_t variables(const circuit *c)
+{
+    return c->inputs + c->latches + c->gates;
+}
+
+static size_t top_literal(const circuit *c)
+{
+    return 2 * variables(c) + 1;
+}
+
+static size_t own_of_input(size_t i)
+{
+    return 2 * (1 + i);
+}
+
+static size_t own_of_latch(const circuit *c, size_t i)
+{
+    return 2 * (1 + c->inputs + i);
+}
+
+static size_t own_of_gate(const circuit *c, size_t i)
+{
+    return 2 * (1 + c->inputs + c->latches + i);
+}
+
+static size_t table_length(const circuit *c)
+{
+    return 2 * c->latches + c->lamps + 2 * c->gates;
+}
+
+/* Refusals 6 and 8, 6, and 6 and 7, as a line gives them; 0 where there is nothing to refuse. */
+static uint32_t judge_latch(const circuit *c, latch l)
+{
+    return l.next > top_literal(c) ? 6 : l.reset > 1 ? 8 : 0;
+}
+
+static uint32_t judge_lamp(const circuit *c, size_t literal)
+{
+    return literal > top_literal(c) ? 6 : 0;
+}
+
+static uint32_t judge_gate(const circuit *c, size_t i, gate g)
+{
+    if (g.left > top_literal(c) || g.right > top_literal(c))
+        return 6;
+    return g.left >= own_of_gate(c, i) || g.right >= own_of_gate(c, i) ? 7 : 0;
+}
+
+static void to_table(const circuit *c, uint16_t *word)
+{
+    for (size_t i = 0; i < c->latches; i++) {
+        *word++ = (uint16_t)c->latch[i].next;
+        *word++ = (uint16_t)c->latch[i].reset;
+    }
+    for (size_t i = 0; i < c->lamps; i++)
+        *word++ = (uint16_t)c->lamp[i];
+    for (size_t i = 0; i < c->gates; i++) {
+        *word++ = (uint16_t)c->gate[i].left;
+        *word++ = (uint16_t)c->gate[i].right;
+    }
+}
+
+static void from_table(circuit *c, const uint16_t *word)
+{
+    for (size_t i = 0; i < c->latches; i++, word += 2)
+        c->latch[i] = (latch){word[0], word[1]};
+    for (size_t i = 0; i < c->lamps; i++)
+        c->lamp[i] = *word++;
+    for (size_t i = 0; i < c->gates; i++, word += 2)
+        c->gate[i] = (gate){word[0], word[1]};
+}
+
+static bool sound(const circuit *c)
+{
+    for (size_t i = 0; i < c->latches; i++)
+        if (judge_latch(c, c->latch[i]) != 0)
+            return false;
+    for (size_t i = 0; i < c->lamps; i++)
+        if (judge_lamp(c, c->lamp[i]) != 0)
+            return false;
+    for (size_t i = 0; i < c->gates; i++)
+        if (judge_gate(c, i, c->gate[i]) != 0)
+            return false;
+    return true;
+}
+
+/* The opening that writer, tick and run share: refusals 3, 10 for the table, 11. */
+static uint32_t take_circuit(circuit *c, chudravik_counts counts, const uint16_t *table, size_t table_words)
+{
+    if (!within_ceilings(counts))
+        return 3;
+    set_counts(c, counts);
+    if (table_words < table_length(c))
+        return 10;
+    from_table(c, table);
+    return sound(c) ? 0 : 11;
+}
+
+/* ---- text: read ---- */
+
+enum { NUMBERS_KEPT = 5 };
+
+typedef struct {
+    bool formed;  /* numbers with one space between, and byte 10 behind */
+    bool comment; /* `c` and byte 10 */
+    size_t count; /* of numbers; only the first few are kept, no line has more */
+    size_t number[NUMBERS_KEPT];
+} line;
+
+typedef struct {
+    line *line;
+    size_t count;
+    size_t space;
+} lines;
+
+static bool is_number(const uint8_t *token, size_t length)
+{
+    if (length < 1 || length > 5 || (length > 1 && token[0] == '0'))
+        return false;
+    for (size_t i = 0; i < length; i++)
+        if (token[i] < '0' || token[i] > '9')
+            return false;
+    return true;
+}
+
+static size_t number_of(const uint8_t *token, size_t length)
+{
+    return length == 0 ? 0 : 10 * number_of(token, length - 1) + (size_t)(token[length - 1] - '0');
+}
+
+static size_t until(const uint8_t *bytes, size_t length, uint8_t stop)
+{
+    const uint8_t *found = length == 0 ? NULL : memchr(bytes, stop, length);
+    return found == NULL ? length : (size_t)(found - bytes);
+}
+
+static line tokenise(const uint8_t *bytes, size_t length, bool ended)
+{
+    line made = {.formed = ended, .comment = ended && length == 1 && bytes[0] == 'c'};
+    for (size_t at = 0; at <= length; made.count++) {
+        size_t token = until(bytes + at, length - at, ' ');
+        if (!is_number(bytes + at, token))
+            made.formed = false;
+        else if (made.count < NUMBERS_KEPT)
+            made.number[made.count] = number_of(bytes + at, token);
+        at += token + 1;
+    }
+    return made;
+}
+
+static void add_line(lines *all, line one)
+{
+    if (all->count == all->space) {
+        all->space = 2 * all->space + 16;
+        all->line = must(realloc(all->line, all->space * sizeof *all->line));
+    }
+    all->line[all->count++] = one;
+}
+
+static lines split(const uint8_t *bytes, size_t length)
+{
+    lines all = {0};
+    while (length > 0) {
+        size_t here = until(bytes, length, '\n');
+        bool ended = here < length;
+        add_line(&all, tokenise(bytes, here, ended));
+        bytes += here + ended;
+        length -= here + ended;
+    }
+    return all;
+}
+
+/* The text behind its four opening bytes, line after line. */
+typedef struct {
+    lines all;
+    size_t taken;
+} reading;
+
+/* The line due, if it is there and has so many numbers. */
+static const line *due_line(reading *r, size_t least, size_t most)
+{
+    if (r->taken == r->all.count)
+        return NULL;
+    const line *due = &r->all.line[r->taken++];
+    return due->formed && due->count >= least && due->count <= most ? due : NULL;
+}
+
+static uint32_t read_first_line(reading *r, circuit *c)
+{
+    const line *first = due_line(r, 5, 5);
+    if (first == NULL)
+        return 2;
+    const size_t *n = first->number;
+    chudravik_counts counts = {.inputs = n[1], .latches = n[2], .lamps = n[3], .gates = n[4]};
+    if (!within_ceilings(counts))
+        return 3;
+    set_counts(c, counts);
+    return n[0] == variables(c) ? 0 : 3;
+}
+
+static uint32_t read_input(reading *r, size_t i)
+{
+    const line *due = due_line(r, 1, 1);
+    if (due == NULL)
+        return 4;
+    return due->number[0] == own_of_input(i) ? 0 : 5;
+}
+
+static uint32_t read_latch(reading *r, circuit *c, size_t i)
+{
+    const line *due = due_line(r, 2, 3);
+    if (due == NULL)
+        return 4;
+    if (due->number[0] != own_of_latch(c, i))
+        return 5;
+    c->latch[i] = (latch){due->number[1], due->count == 3 ? due->number[2] : 0};
+    return judge_latch(c, c->latch[i]);
+}
+
+static uint32_t read_lamp(reading *r, circuit *c, size_t i)
+{
+    const line *due = due_line(r, 1, 1);
+    if (due == NULL)
+        return 4;
+    c->lamp[i] = due->number[0];
+    return judge_lamp(c, c->lamp[i]);
+}
+
+static uint32_t read_gate(reading *r, circuit *c, size_t i)
+{
+    const line *due = due_line(r, 3, 3);
+    if (due == NULL)
+        return 4;
+    if (due->number[0] != own_of_gate(c, i))
+        return 5;
+    c->gate[i] = (gate){due->number[1], due->number[2]};
+    return judge_gate(c, i, c->gate[i]);
+}
+
+static uint32_t read_body(reading *r, circuit *c)
+{
+    uint32_t refusal = 0;
+    for (size_t i = 0; i < c->inputs && refusal == 0; i++)
+        refusal = read_input(r, i);
+    for (size_t i = 0; i < c->latches && refusal == 0; i++)
+        refusal = read_latch(r, c, i);
+    for (size_t i = 0; i < c->lamps && refusal == 0; i++)
+        refusal = read_lamp(r, c, i);
+    for (size_t i = 0; i < c->gates && refusal == 0; i++)
+        refusal = read_gate(r, c, i);
+    return refusal;
+}
+
+static uint32_t read_end(const reading *r)
+{
+    return r->taken == r->all.count || r->all.line[r->taken].comment ? 0 : 9;
+}
+
+static uint32_t read_lines(reading *r, circuit *c)
+{
+    uint32_t refusal = read_first_line(r, c);
+    if (refusal == 0)
+        refusal = read_body(r, c);
+    return refusal == 0 ? read_end(r) : refusal;
+}
+
+static uint32_t read_text(const uint8_t *text, size_t text_bytes, circuit *c)
+{
+    if (text_bytes > TEXT_CEILING)
+        return 1;
+    if (text_bytes < 4 || memcmp(text, "aag ", 4) != 0)
+        return 2;
+    reading r = {.all = split(text + 4, text_bytes - 4)};
+    uint32_t refusal = read_lines(&r, c);
+    free(r.all.line);
+    return refusal;
+}
+
+chudravik_read_answer simulate_read(const uint8_t *text, size_t text_bytes, uint16_t *table, size_t table_words)
+{
+    circuit c;
+    uint32_t refusal = read_text(text, text_bytes, &c);
+    if (refusal == 0 && table_words < table_length(&c))
+        refusal = 10;
+    if (refusal != 0)
+        return (chudravik_read_answer){.number = refusal};
+    to_table(&c, table);
+    return (chudravik_read_answer){0, {c.inputs, c.latches, c.lamps, c.gates}};
+}
+
+/* ---- text: written ---- */
+
+typedef struct {
+    char byte[TEXT_CEILING + 1];
+    size_t count;
+} written;
+
+static void put(written *out, const char *form, ...)
+{
+    va_list numbers;
+    va_start(numbers, form);
+    out->count += (size_t)vsnprintf(out->byte + out->count, sizeof out->byte - out->count, form, numbers);
+    va_end(numbers);
+}
+
+static void put_circuit(written *out, const circuit *c)
+{
+    put(out, "aag %zu %zu %zu %zu %zu\n", variables(c), c->inputs, c->latches, c->lamps, c->gates);
+    for (size_t i = 0; i < c->inputs; i++)
+        put(out, "%zu\n", own_of_input(i));
+    for (size_t i = 0; i < c->latches; i++)
+        put(out, "%zu %zu%s\n", own_of_latch(c, i), c->latch[i].next, c->latch[i].reset == 1 ? " 1" : "");
+    for (size_t i = 0; i < c->lamps; i++)
+        put(out, "%zu\n", c->lamp[i]);
+    for (size_t i = 0; i < c->gates; i++)
+        put(out, "%zu %zu %zu\n", own_of_gate(c, i), c->gate[i].left, c->gate[i].right);
+}
+
+chudravik_write_answer simulate_write(chudravik_counts counts, const uint16_t *table, size_t table_words, uint8_t *text,
+                                      size_t text_bytes)
+{
+    circuit c;
+    uint32_t refusal = take_circuit(&c, counts, table, table_words);
+    if (refusal != 0)
+        return (chudravik_write_answer){.number = refusal};
+    written out;
+    out.count = 0;
+    put_circuit(&out, &c);
+    if (text_bytes < out.count)
+        return (chudravik_write_answer){.number = 10};
+    memcpy(text, out.byte, out.count);
+    return (chudravik_write_answer){0, out.count};
+}
+
+/* ---- records ---- */
+
+/* In this order the AND of two values is the lesser, and inverting is the minus sign. */
+typedef int8_t value;
+
+enum { KNOWN_0 = -1, UNKNOWN = 0, KNOWN_1 = 1, NOT_ASKED = 2 };
+
+static size_t record_length(size_t fields)
+{
+    size_t bytes = fields / 4 + (fields % 4 != 0);
+    return bytes == 0 ? 1 : bytes;
+}
+
+static unsigned pair_at(const uint8_t *record, size_t place)
+{
+    return record[place / 4] >> (2 * (3 - place % 4)) & 3u;
+}
+
+/* Refusal 14 is judged over every place of the record's bytes, the leftover ones too. */
+static bool good_record(const uint8_t *record, size_t fields)
+{
+    for (size_t place = 0; place < 4 * record_length(fields); place++) {
+        unsigned pair = pair_at(record, place);
+        if (pair == 3 || (place >= fields && pair != 0))
+            return false;
+    }
+    return true;
+}
+
+static void unpack(const uint8_t *record, value *field, size_t fields)
+{
+    for (size_t i = 0; i < fields; i++) {
+        unsigned pair = pair_at(record, i);
+        field[i] = pair == 1 ? KNOWN_0 : pair == 2 ? KNOWN_1 : UNKNOWN;
+    }
+}
+
+static void pack(const value *field, size_t fields, uint8_t *record)
+{
+    memset(record, 0, record_length(fields));
+    for (size_t i = 0; i < fields; i++) {
+        unsigned pair = field[i] == KNOWN_0 ? 1 : field[i] == KNOWN_1 ? 2 : 0;
+        record[i / 4] |= (uint8_t)(pair << (2 * (3 - i % 4)));
+    }
+}
+
+/* ---- tick ---- */
+
+typedef struct {
+    const circuit *circuit;
+    const value *state;
+    const value *switches;
+    value known[1 + VARIABLES_CEILING]; /* of each variable that was asked for already */
+} asking;
+
+static value ask(asking *a, size_t literal);
+
+static value work_out(asking *a, size_t variable)
+{
+    const circuit *c = a->circuit;
+    size_t i = variable - 1;
+    if (i < c->inputs)
+        return a->switches[i];
+    i -= c->inputs;
+    if (i < c->latches)
+        return a->state[i];
+    gate g = c->gate[i - c->latches];
+    value left = ask(a, g.left);
+    value right = ask(a, g.right);
+    return left < right ? left : right;
+}
+
+static value ask(asking *a, size_t literal)
+{
+    size_t variable = literal / 2;
+    if (a->known[variable] == NOT_ASKED)
+        a->known[variable] = work_out(a, variable);
+    return literal % 2 == 1 ? (value)-a->known[variable] : a->known[variable];
+}
+
+static void tick(const circuit *c, const value *state, const value *switches, value *next, value *lamps)
+{
+    asking a = {.circuit = c, .state = state, .switches = switches};
+    memset(a.known, NOT_ASKED, 1 + variables(c));
+    a.known[0] = KNOWN_0;
+    for (size_t i = 0; i < c->lamps; i++)
+        lamps[i] = ask(&a, c->lamp[i]);
+    for (size_t i = 0; i < c->latches; i++)
+        next[i] = ask(&a, c->latch[i].next);
+}
+
+static void tick_records(const circuit *c, const uint8_t *state, const uint8_t *switches, uint8_t *next, uint8_t *lamps)
+{
+    value from[LATCHES_CEILING], set[INPUTS_CEILING], to[LATCHES_CEILING], lit[LAMPS_CEILING];
+    unpack(state, from, c->latches);
+    unpack(switches, set, c->inputs);
+    tick(c, from, set, to, lit);
+    pack(to, c->latches, next);
+    pack(lit, c->lamps, lamps);
+}
+
+uint32_t simulate_tick(chudravik_counts counts, const uint16_t *table, size_t table_words, const uint8_t *state,
+                       size_t state_bytes, const uint8_t *switches, size_t switches_bytes, uint8_t *next,
+                       size_t next_bytes, uint8_t *lamps, size_t lamps_bytes)
+{
+    circuit c;
+    uint32_t refusal = take_circuit(&c, counts, table, table_words);
+    if (refusal != 0)
+        return refusal;
+    if (state_bytes < record_length(c.latches) || switches_bytes < record_length(c.inputs))
+        return 10;
+    if (!good_record(state, c.latches) || !good_record(switches, c.inputs))
+        return 14;
+    if (next_bytes < record_length(c.latches) || lamps_bytes < record_length(c.lamps))
+        return 10;
+    tick_records(&c, state, switches, next, lamps);
+    return 0;
+}
+
+/* ---- run ---- */
+
+typedef struct {
+    const circuit *circuit;
+    value *field; /* cube k has its fields from k times latches on */
+    size_t count; /* of cubes */
+    size_t space;
+    bool held[LATCHES_CEILING];
+    value verdict[LAMPS_CEILING]; /* over the cubes that were followed so far */
+} chain;
+
+static value *cube(const chain *run, size_t k)
+{
+    return run->field + k * run->circuit->latches;
+}
+
+static void add_cube(chain *run, const value *fields)
+{
+    size_t latches = run->circuit->latches;
+    if (run->count == run->space) {
+        run->space = 2 * run->space + 16;
+        run->field = must(realloc(run->field, run->space * latches + 1));
+    }
+    memcpy(cube(run, run->count), fields, latches);
+    run->count++;
+}
+
+static void start(chain *run)
+{
+    value resets[LATCHES_CEILING];
+    for (size_t i = 0; i < run->circuit->latches; i++)
+        resets[i] = run->circuit->latch[i].reset == 1 ? KNOWN_1 : KNOWN_0;
+    add_cube(run, resets);
+}
+
+/* What two values have in common. */
+static value shared(value one, value other)
+{
+    return one == other ? one : UNKNOWN;
+}
+
+static void note_lamps(chain *run, const value *lamps)
+{
+    for (size_t i = 0; i < run->circuit->lamps; i++)
+        run->verdict[i] = run->count == 1 ? lamps[i] : shared(run->verdict[i], lamps[i]);
+}
+
+/* Step 1, from the last cube; its lamps are noted in the same go, so each cube's are noted once. */
+static void follow(chain *run, value *b)
+{
+    const circuit *c = run->circuit;
+    value lamps[LAMPS_CEILING], switches[INPUTS_CEILING];
+    memset(switches, UNKNOWN, sizeof switches);
+    tick(c, cube(run, run->count - 1), switches, b, lamps);
+    note_lamps(run, lamps);
+    for (size_t i = 0; i < c->latches; i++)
+        if (run->held[i])
+            b[i] = UNKNOWN;
+}
+
+static bool subsumes(const value *stored, const value *b, size_t fields)
+{
+    for (size_t i = 0; i < fields; i++)
+        if (stored[i] != UNKNOWN && stored[i] != b[i])
+            return false;
+    return true;
+}
+
+/* Step 2: the number of the first cube that subsumes b, or the count of cubes where none does. */
+static size_t search(const chain *run, const value *b)
+{
+    size_t j = 0;
+    while (j < run->count && !subsumes(cube(run, j), b, run->circuit->latches))
+        j++;
+    return j;
+}
+
+/* Step 4, where the interval divides the number of the cube to come. */
+static void widen(chain *run, value *b)
+{
+    const value *a = cube(run, run->count - 1);
+    for (size_t i = 0; i < run->circuit->latches; i++)
+        if (a[i] != b[i]) {
+            run->held[i] = true;
+            b[i] = UNKNOWN;
+        }
+}
+
+/* The cube that the run goes back to, or the count of cubes where there was no room to close. */
+static size_t run_on(chain *run, size_t w, size_t room)
+{
+    start(run);
+    for (;;) {
+        value b[LATCHES_CEILING];
+        follow(run, b);
+        size_t j = search(run, b);
+        if (j < run->count || run->count == room)
+            return j;
+        if (w != 0 && run->count % w == 0)
+            widen(run, b);
+        add_cube(run, b);
+    }
+}
+
+static void settle(const chain *run, size_t j, value *settled)
+{
+    size_t latches = run->circuit->latches;
+    memcpy(settled, cube(run, j), latches);
+    for (size_t k = j + 1; k < run->count; k++)
+        for (size_t i = 0; i < latches; i++)
+            settled[i] = shared(settled[i], cube(run, k)[i]);
+}
+
+static size_t known_fields(const value *field, size_t fields)
+{
+    size_t known = 0;
+    for (size_t i = 0; i < fields; i++)
+        known += field[i] != UNKNOWN;
+    return known;
+}
+
+static chudravik_run_answer run_circuit(const circuit *c, size_t w, uint8_t *cubes, size_t room, uint8_t *verdict,
+                                        uint8_t *settled)
+{
+    chain run = {.circuit = c};
+    size_t j = run_on(&run, w, room);
+    for (size_t k = 0; k < run.count; k++)
+        pack(cube(&run, k), c->latches, cubes + k * record_length(c->latches));
+    chudravik_run_answer answer = {.number = 15, .cubes = run.count};
+    if (j < run.count) {
+        value kept[LATCHES_CEILING];
+        settle(&run, j, kept);
+        pack(kept, c->latches, settled);
+        pack(run.verdict, c->lamps, verdict);
+        answer = (chudravik_run_answer){0, run.count, j, known_fields(kept, c->latches)};
+    }
+    free(run.field);
+    return answer;
+}
+
+static uint32_t judge_run(const circuit *c, size_t w, size_t cubes_bytes, size_t verdict_bytes, size_t settled_bytes)
+{
+    if (w > INTERVAL_CEILING)
+        return 12;
+    if (cubes_bytes < record_length(c->latches) || cubes_bytes > CUBES_CEILING)
+        return 13;
+    return verdict_bytes < record_length(c->lamps) || settled_bytes < record_length(c->latches) ? 10 : 0;
+}
+
+chudravik_run_answer simulate_run(chudravik_counts counts, const uint16_t *table, size_t table_words, size_t w,
+                                  uint8_t *cubes, size_t cubes_bytes, uint8_t *verdict, size_t verdict_bytes,
+                                  uint8_t *settled, size_t settled_bytes)
+{
+    circuit c;
+    uint32_t refusal = take_circuit(&c, counts, table, table_words);
+    if (refusal == 0)
+        refusal = judge_run(&c, w, cubes_bytes, verdict_bytes, settled_bytes);
+    if (refusal != 0)
+        return (chudravik_run_answer){.number = refusal};
+    return run_circuit(&c, w, cubes, cubes_bytes / record_length(c.latches), verdict, settled);
+}
