@@ -5,7 +5,7 @@
  *
  * A buffer is a pointer and a length: in bytes, and for a table in 16-bit words. Nothing beyond a buffer's length is
  * read or written, and no call allocates, keeps a pointer, or touches anything else. Calls may run in parallel on
- * different buffers. A call takes less than 16 KiB of stack.
+ * different buffers. A call takes at most CHUDRAVIK_MOST_STACK bytes of stack (measured, not proved).
  *
  * What a caller must not do, since C cannot be stopped from it and the proofs start from it:
  *   - hand in a null pointer, not even for a buffer of length 0 (any other address will do there);
@@ -36,6 +36,7 @@ extern "C" {
 #define CHUDRAVIK_MOST_WRITTEN 57122     /* bytes of a text that is written: no circuit needs more */
 #define CHUDRAVIK_MOST_INTERVAL 1000     /* w */
 #define CHUDRAVIK_MOST_CUBE_BYTES 65536  /* the cube buffer */
+#define CHUDRAVIK_MOST_STACK 8192
 
 /* ---- lengths ---- */
 
