@@ -51,6 +51,11 @@ refusal-append (s ∷ ss) ts e =
     (λ h. past s (ss ++ ts) h (refusal-append ss ts (rw (refusal, h) at e)))
     (λ h. rw (refusal, h) (sym (rw (refusal, h) at e)))
 
+-- the same of a number that is not 0
+pub refuses-whole : (ss ts : List Test) (k : ℕ) → k ≡ refusal ss → (k ≡ 0 → ⊥) → k ≡ refusal (ss ++ ts)
+refuses-whole ss ts zero e h = absurd (h refl)
+refuses-whole ss ts (suc k) e h = refusal-append ss ts (sym e)
+
 -- where the first tests hold the others decide
 pub append-past : (ss ts : List Test) {k : ℕ} → Passed ss → k ≡ refusal ts → k ≡ refusal (ss ++ ts)
 append-past [] ts p e = e

@@ -20,7 +20,7 @@ use Rattle.circuit.specs.Refusal.{Test, _or_, refusal, Passed, accepted}
 use Rattle.circuit.specs.Table.{top, tableLength, ceilingTests, kinds, tableTests, latchKept, lampKept, gateKept, gatesFrom, circuitOf, Bounded, Legal}
 use Rattle.circuit.specs.Working.{valuesOf, Working, Begins, Readable, literalValues}
 use Rattle.circuit.specs.Tick.{circuitTests, recordTests, resultTests, Given, tickTests, nextFields, lampFields, Ticked}
-use Rattle.circuit.proofs.Refusals.{Numbered, stops, past, none, passes, passed-append, refusal-append, append-past, refused-old, accepted-new}
+use Rattle.circuit.proofs.Refusals.{Numbered, stops, past, none, passes, passed-append, refuses-whole, append-past, refused-old, accepted-new}
 use Rattle.circuit.proofs.Rules.{Latches, Lamps, Gates, table-rules}
 use Rattle.circuit.proofs.Values.{value-take}
 
@@ -107,8 +107,7 @@ module _ (c : Counts) (table state switches : List ℕ) (n l : ℕ) where
 
   pub circuit-refuses : (k : ℕ) → k ≡ refusal (circuitTests c table) → (k ≡ 0 → ⊥) → k ≡ number
   unfolding tickTests
-  circuit-refuses zero e h = absurd (h refl)
-  circuit-refuses (suc k) e h = refusal-append _ _ (sym e)
+  circuit-refuses = refuses-whole (circuitTests c table) _
 
   module _ (circuit-passes : 0 ≡ refusal (circuitTests c table)) where
     past-circuit : (ts : List Test) {k : ℕ} → k ≡ refusal ts → k ≡ refusal (circuitTests c table ++ ts)
@@ -116,8 +115,7 @@ module _ (c : Counts) (table state switches : List ℕ) (n l : ℕ) where
 
     pub records-refuse : (k : ℕ) → k ≡ refusal (recordTests c state switches) → (k ≡ 0 → ⊥) → k ≡ number
     unfolding tickTests
-    records-refuse zero e h = absurd (h refl)
-    records-refuse (suc k) e h = past-circuit _ (refusal-append _ _ (sym e))
+    records-refuse k e h = past-circuit _ (refuses-whole (recordTests c state switches) _ k e h)
 
     module _ (records-pass : 0 ≡ refusal (recordTests c state switches)) where
       past-records : (ts : List Test) {k : ℕ} → k ≡ refusal ts → k ≡ refusal (circuitTests c table ++ (recordTests c state switches ++ ts))

@@ -9,7 +9,7 @@ use Rattle.circuit.specs.declared.Counts.{Counts}
 use Rattle.circuit.specs.Refusal.{Test, refusal, Passed}
 use Rattle.circuit.specs.Table.{ceilingTests, Legal}
 use Rattle.circuit.specs.Tick.{circuitTests}
-use Rattle.circuit.proofs.Refusals.{Numbered, stops, past, none, passes, passed-append, refusal-append, append-past}
+use Rattle.circuit.proofs.Refusals.{Numbered, stops, past, none, passes, passed-append, refuses-whole, append-past}
 use Rattle.circuit.proofs.Ticking.{circuit-numbered, legal-passed}
 use Rattle.run.specs.Call.{runTests, resultTests}
 
@@ -19,8 +19,7 @@ module _ (c : Counts) (table : List ℕ) (w n v s : ℕ) where
 
   pub circuit-refuses : (k : ℕ) → k ≡ refusal (circuitTests c table) → (k ≡ 0 → ⊥) → k ≡ number
   unfolding runTests
-  circuit-refuses zero e h = absurd (h refl)
-  circuit-refuses (suc k) e h = refusal-append _ _ (sym e)
+  circuit-refuses = refuses-whole (circuitTests c table) _
 
   module _ (ok : 0 ≡ refusal (circuitTests c table)) where
     past-circuit : (ts : List Test) {k : ℕ} → k ≡ refusal ts → k ≡ refusal (circuitTests c table ++ ts)
