@@ -5,7 +5,6 @@ use Prim.Native.Nat.{ℕ, _+_, _*_, _<_}
 use native.Mathlib.Omega.{arith}
 use lib.ListN.{getD, take}
 use lib.Seq.{getD-take}
-use Rattle.three.specs.Lists.{tabulate}
 use Rattle.three.proofs.Lists.{tabulate-ext}
 use Rattle.circuit.specs.declared.Counts.{Counts}
 use Rattle.circuit.specs.Circuit.{Circuit, Latch, Gate}

@@ -1,13 +1,12 @@
 -- The pass over the gates, turn by turn: i gates are done, and what is left of them gives the same values. Assumes nothing.
 use mathlib.Core.Path.{_≡_, refl, sym, ap, ap₂, _∙_}
 use mathlib.Core.List.{List, [], _∷_, _++_}
-use Prim.Native.Nat.{ℕ, zero, suc, _+_, _*_, _<_, _≤_}
+use Prim.Native.Nat.{ℕ, suc, _+_, _*_, _<_, _≤_}
 use native.Mathlib.Nat.{add-zero}
 use native.Mathlib.Numerals.{add-one}
 use native.Mathlib.Omega.{arith}
 use lib.ListN.{length, getD, set, take, drop, length-set, take-append-drop, drop-of-length-le}
 use lib.Seq.{take-suc-set, drop-set-lt, drop-cons}
-use Rattle.three.specs.Lists.{tabulate}
 use Rattle.three.specs.Value.{Three, both, ternary}
 use Rattle.three.proofs.Lists.{length-tabulate, getD-tabulate}
 use Rattle.circuit.specs.Circuit.{Gate, value, pass}

@@ -7,7 +7,7 @@ use native.Mathlib.Nat.{add-zero, zero-mul, mul-suc, mul-zero}
 use native.Mathlib.Omega.{arith}
 use borrow.Author.Tests.{le-leb, ltb-true}
 use lib.Dec.{leb, ltb}
-use lib.ListN.{length, getD, drop}
+use lib.ListN.{getD, drop}
 use lib.Seq.{getD-drop, drop-drop}
 use Rattle.three.specs.Lists.{every}
 use Rattle.three.proofs.Lists.{iff, and-parts, every-all, every-ext}

@@ -1,28 +1,22 @@
 -- The tick: what its refusals leave out, and that what is stored is the circuit's next state and lamps. Assumes nothing.
-use mathlib.Core.Path.{_≡_, refl, sym, ap, ap₂, _∙_}
-use mathlib.Core.Bool.{Bool, true, false, _&&_}
-use mathlib.Core.List.{List, [], _∷_, _++_, map}
-use Prim.Native.Nat.{ℕ, zero, suc, _+_, _*_, _<_, _≤_}
-use native.Mathlib.Nat.{zero-add, add-zero}
+use mathlib.Core.Path.{_≡_, sym, _∙_}
+use mathlib.Core.Bool.{true, false, _&&_}
+use mathlib.Core.List.{List, _∷_, _++_}
+use Prim.Native.Nat.{ℕ, _+_, _*_, _<_, _≤_}
 use native.Mathlib.Omega.{arith}
 use borrow.Author.Tests.{leb-true, ltb-true, le-leb, lt-leb}
 use lib.Dec.{leb, ltb}
-use lib.ListN.{length, getD, take, length-append}
-use Rattle.three.specs.Lists.{tabulate, every, over}
-use Rattle.three.specs.Value.{Three, ternary}
-use Rattle.three.specs.Cube.{Cube}
-use Rattle.three.specs.Record.{bytesFor, pack, unpack, sound, IsRecord}
-use Rattle.three.proofs.Lists.{and-parts, every-at, length-tabulate, map-tabulate, tabulate-ext}
-use Rattle.three.proofs.Pack.{length-unpack}
+use lib.ListN.{length, getD}
+use Rattle.three.specs.Lists.{over}
+use Rattle.three.specs.Record.{bytesFor, pack, sound, IsRecord}
+use Rattle.three.proofs.Lists.{and-parts, every-at}
 use Rattle.circuit.specs.declared.Counts.{Counts}
-use Rattle.circuit.specs.Circuit.{Gate, value, pass, settle, next, lamps}
-use Rattle.circuit.specs.Refusal.{Test, _or_, refusal, Passed, accepted}
-use Rattle.circuit.specs.Table.{top, tableLength, ceilingTests, kinds, tableTests, latchKept, lampKept, gateKept, gatesFrom, circuitOf, Bounded, Legal}
-use Rattle.circuit.specs.Working.{valuesOf, Working, Begins, Readable, literalValues}
+use Rattle.circuit.specs.Circuit.{next, lamps}
+use Rattle.circuit.specs.Refusal.{Test, _or_, refusal, Passed}
+use Rattle.circuit.specs.Table.{top, tableLength, ceilingTests, latchKept, lampKept, gateKept, Legal}
 use Rattle.circuit.specs.Tick.{circuitTests, recordTests, resultTests, Given, tickTests, nextFields, lampFields, Ticked}
 use Rattle.circuit.proofs.Refusals.{Numbered, stops, past, none, passes, passed-append, refuses-whole, append-past, refused-old, accepted-new}
 use Rattle.circuit.proofs.Rules.{Latches, Lamps, Gates, table-rules}
-use Rattle.circuit.proofs.Values.{value-take}
 
 -- ---- a circuit that is not refused is legal
 

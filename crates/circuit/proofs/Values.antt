@@ -1,5 +1,5 @@
 -- Laws of the working table, of a literal's value, and of the records that are loaded into it and stored from it. Assumes nothing.
-use mathlib.Core.Path.{_≡_, refl, sym, ap, ap₂, _∙_}
+use mathlib.Core.Path.{_≡_, refl, sym, ap, _∙_}
 use mathlib.Core.List.{List, [], _∷_, map}
 use Prim.Native.Nat.{ℕ, zero, suc, _+_, _*_, _/_, _%_, _<_, _≤_}
 use native.Mathlib.Nat.{le-of-suc-le-suc, not-suc-le-zero}
@@ -7,11 +7,12 @@ use native.Mathlib.Omega.{arith}
 use lib.ListN.{length, getD, set, take, length-set, length-map, List·getD-map}
 use lib.Seq.{getD-take}
 use Rattle.three.specs.Record.{pairAt, unpack, IsRecord}
-use Rattle.three.specs.Value.{Three, unknown, low, code, decode, inverse, ternary}
+use Rattle.three.specs.Value.{Three, unknown, low, code, decode, ternary}
 use Rattle.three.proofs.Lists.{Stored, stored-next, length-tabulate, getD-tabulate, getD-beyond}
-use Rattle.three.proofs.Pack.{code-decode, length-unpack, sound-pair}
+use Rattle.three.proofs.Table.{entry-of-row}
+use Rattle.three.proofs.Pack.{code-small, code-decode, decode-code, length-unpack, sound-pair}
 use Rattle.circuit.specs.Circuit.{signed, value}
-use Rattle.circuit.specs.Working.{valuesOf, Working, Holding, literalValues}
+use Rattle.circuit.specs.Working.{valuesOf, Working, Holding, signTable, literalValues}
 
 -- ---- a variable read, and written
 
@@ -53,13 +54,12 @@ length-values table = length-map table decode
 -- ---- a literal's value
 
 module _ (values : List Three) (x : ℕ) where
-  pub value-even : x % 2 ≡ 0 → getD values (x / 2) low ≡ value ternary values x
-  unfolding value signed ternary
-  value-even e = rw e
-
-  pub value-odd : (x % 2 ≡ 0 → ⊥) → inverse (getD values (x / 2) low) ≡ value ternary values x
-  unfolding value signed ternary
-  value-odd e = let o : x % 2 ≡ 1 = omega arith in rw o
+  -- read through the table of signs
+  pub value-signed : getD (getD signTable (x % 2) []) (code (getD values (x / 2) low)) 0 ≡ code (value ternary values x)
+  unfolding value signTable ternary
+  value-signed =
+      entry-of-row 0 (λ sign v. code (signed ternary sign (decode v))) 2 3 (x % 2) _ (omega arith) (code-small _)
+      ∙ ap (λ v. code (signed ternary (x % 2) v)) (decode-code _)
 
   -- a literal below 2 n is read from the first n values
   pub value-take : (n : ℕ) → x < 2 * n → value ternary (take n values) x ≡ value ternary values x

@@ -4,9 +4,9 @@ use mathlib.Core.List.{List, _++_, map}
 use Prim.Native.Nat.{ℕ, _+_, _*_, _<_, _≤_}
 use lib.ListN.{length, getD, take, drop}
 use Rattle.three.specs.Lists.{tabulate}
-use Rattle.three.specs.Value.{Three, decode, ternary}
+use Rattle.three.specs.Value.{Three, code, decode, ternary}
 use Rattle.three.specs.Cube.{Cube}
-use Rattle.circuit.specs.Circuit.{value, pass}
+use Rattle.circuit.specs.Circuit.{signed, value, pass}
 use Rattle.circuit.specs.Table.{gatesFrom}
 
 -- the values that a working table holds
@@ -27,6 +27,10 @@ pub record Holding (table : List ℕ) (values : List Three) : Type 0 where
 pub record Begins (table : List ℕ) (values : List Three) : Type 0 where
   pub working : Working table
   pub same : take (length values) (valuesOf table) ≡ values
+
+-- a value as an even literal reads it, and as an odd one does: a row for each, all in their two bits
+unfoldable pub signTable : List (List ℕ)
+signTable = tabulate 2 (λ sign. tabulate 3 (λ v. code (signed ternary sign (decode v))))
 
 -- `count` gates from word `at` on, the first of them variable `first`: the words are there, and each operand is below its gate's own literal
 pub record Gateable (words : List ℕ) (at first count : ℕ) : Type 0 where

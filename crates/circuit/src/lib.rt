@@ -1,16 +1,16 @@
 // The table of words: its counts and rules, one pass over the gates, the tick (document 01, Circuit and Tick).
 ghost use mathlib.Core.Path.{_≡_};
 ghost use mathlib.Core.List.{_++_};
-ghost use Prim.Native.Nat.{ℕ, _+_, _*_, _<_, _≤_};
+ghost use Prim.Native.Nat.{_+_, _*_, _<_, _≤_};
 ghost use lib.ListN.{length, getD, set, take};
 ghost use lib.Seq.{paste};
 ghost use Rattle.three.specs.Lists.{every, over};
-ghost use Rattle.three.specs.Value.{unknown, low, code, decode, both, ternary};
+ghost use Rattle.three.specs.Value.{unknown, low, code, decode, both, ternary, gateTable};
 ghost use Rattle.three.specs.Record.{bytesFor, byteAt, pack, unpack, IsRecord};
 ghost use Rattle.circuit.specs.Circuit.{value, pass, settle as settled};
 ghost use Rattle.circuit.specs.Refusal.{allHold, refusal};
 ghost use Rattle.circuit.specs.Table.{top, tableLength, kinds, tableTests, latchKept, lampKept, gateKept, circuitOf, Bounded, Legal};
-ghost use Rattle.circuit.specs.Working.{valuesOf, Working, Holding, Begins, Gateable, Readable, literalValues, passed};
+ghost use Rattle.circuit.specs.Working.{valuesOf, Working, Holding, Begins, signTable, Gateable, Readable, literalValues, passed};
 ghost use Rattle.circuit.specs.Tick.{circuitTests, recordTests, tickTests, nextFields, lampFields, Ticked};
 
 // I, L, O and A.
@@ -155,23 +155,40 @@ pub fn put_variable(values: &mut [u8; 4096], v: usize, x: u8)
     values[v] = x;
 }
 
+// A value as it is, and inverted: "Inverting swaps 0 and 1 and keeps X."
+const SIGN: [[u8; 3]; 2] = [[0, 1, 2], [0, 2, 1]];
+
+// As the gate table, made once and lent to each reading.
+fn sign_table() -> [[u8; 3]; 2]
+    ensures { λ r. ⌜ r ≡ signTable ⌝ }
+{
+    SIGN
+}
+
 // "A literal is 2 × variable, plus 1 if inverted."
-fn literal(values: &[u8; 4096], x: u16) -> u8
-    requires { ⌜ (x < 8192) × Working (now values) ⌝ }
+fn literal(signs: &[[u8; 3]; 2], values: &[u8; 4096], x: u16) -> u8
+    requires { ⌜ (now signs ≡ signTable) × (x < 8192) × Working (now values) ⌝ }
     ensures { λ r. ⌜ r ≡ code (value ternary (valuesOf (now (values .entry))) x) ⌝ }
 {
     let v = variable(values, (x / 2) as usize);
-    if x % 2 == 0 {
-        return v;
-    }
-    three::inverted(v)
+    signs[(x % 2) as usize][v as usize]
 }
 
-fn gate(values: &[u8; 4096], left: u16, right: u16) -> u8
-    requires { ⌜ (left < 8192) × (right < 8192) × Working (now values) ⌝ }
+fn gate(
+    answers: &[[u8; 3]; 3],
+    signs: &[[u8; 3]; 2],
+    values: &[u8; 4096],
+    left: u16,
+    right: u16,
+) -> u8
+    requires { ⌜ (now answers ≡ gateTable) × (now signs ≡ signTable) × (left < 8192) × (right < 8192) × Working (now values) ⌝ }
     ensures { λ r. ⌜ r ≡ code (both (value ternary (valuesOf (now (values .entry))) left) (value ternary (valuesOf (now (values .entry))) right)) ⌝ }
 {
-    three::and3(literal(values, left), literal(values, right))
+    three::and3(
+        answers,
+        literal(signs, values, left),
+        literal(signs, values, right),
+    )
 }
 
 // "Gates are taken in order": those from word `at` on, the first of them variable `first`.
@@ -179,9 +196,11 @@ pub fn gates(table: &[u16], at: usize, first: usize, count: usize, values: &mut 
     requires { ⌜ Gateable (now table) at first count × Working (now values) ⌝ }
     ensures { λ _. ⌜ Holding (now (values .exit)) (passed (now (table .entry)) at first count (valuesOf (now (values .entry)))) ⌝ }
 {
+    let answers = three::gate_table();
+    let signs = sign_table();
     for i in 0..count {
         let p = at + 2 * i;
-        let v = gate(values, table[p], table[p + 1]);
+        let v = gate(&answers, &signs, values, table[p], table[p + 1]);
         put_variable(values, first + i, v);
     }
 }
@@ -226,6 +245,7 @@ fn settle(counts: Counts, table: &[u16], state: &[u8], switches: &[u8], values: 
 
 // Literal number i of `count`, one every `step` words from word `at` on; a field beyond them is X.
 fn literal_field(
+    signs: &[[u8; 3]; 2],
     values: &[u8; 4096],
     table: &[u16],
     at: usize,
@@ -233,17 +253,18 @@ fn literal_field(
     count: usize,
     i: usize,
 ) -> u8
-    requires { ⌜ Readable (now table) at step count × Working (now values) ⌝ }
+    requires { ⌜ (now signs ≡ signTable) × Readable (now table) at step count × Working (now values) ⌝ }
     ensures { λ r. ⌜ r ≡ code (getD (literalValues (valuesOf (now (values .entry))) (now (table .entry)) at step count) i unknown) ⌝ }
 {
     if i >= count {
         return 0;
     }
-    literal(values, table[at + step * i])
+    literal(signs, values, table[at + step * i])
 }
 
 // Byte number k of the record of those literals' values.
 fn literal_byte(
+    signs: &[[u8; 3]; 2],
     values: &[u8; 4096],
     table: &[u16],
     at: usize,
@@ -251,14 +272,14 @@ fn literal_byte(
     count: usize,
     k: usize,
 ) -> u8
-    requires { ⌜ Readable (now table) at step count × Working (now values) × (k < 4096) ⌝ }
+    requires { ⌜ (now signs ≡ signTable) × Readable (now table) at step count × Working (now values) × (k < 4096) ⌝ }
     ensures { λ r. ⌜ r ≡ byteAt (literalValues (valuesOf (now (values .entry))) (now (table .entry)) at step count) k ⌝ }
 {
     let i = 4 * k;
-    let a = literal_field(values, table, at, step, count, i);
-    let b = literal_field(values, table, at, step, count, i + 1);
-    let c = literal_field(values, table, at, step, count, i + 2);
-    let d = literal_field(values, table, at, step, count, i + 3);
+    let a = literal_field(signs, values, table, at, step, count, i);
+    let b = literal_field(signs, values, table, at, step, count, i + 1);
+    let c = literal_field(signs, values, table, at, step, count, i + 2);
+    let d = literal_field(signs, values, table, at, step, count, i + 3);
     three::byte_of(a, b, c, d)
 }
 
@@ -274,8 +295,9 @@ pub fn store(
     requires { ⌜ Readable (now table) at step count × Working (now values) × (count ≤ 4096) × (bytesFor count ≤ length (now out)) ⌝ }
     ensures { λ _. ⌜ now (out .exit) ≡ over (pack (literalValues (valuesOf (now (values .entry))) (now (table .entry)) at step count)) (now (out .entry)) ⌝ }
 {
+    let signs = sign_table();
     for k in 0..three::record_length(count) {
-        out[k] = literal_byte(values, table, at, step, count, k);
+        out[k] = literal_byte(&signs, values, table, at, step, count, k);
     }
 }
 
@@ -290,10 +312,11 @@ fn record_refusal(counts: Counts, state: &[u8], switches: &[u8]) -> u32
     if switches.len() < three::record_length(counts.inputs) {
         return 10;
     }
-    if !three::sound(state, counts.latches) {
+    let known = three::known_table();
+    if !three::sound(&known, state, counts.latches) {
         return 14;
     }
-    if !three::sound(switches, counts.inputs) {
+    if !three::sound(&known, switches, counts.inputs) {
         return 14;
     }
     0

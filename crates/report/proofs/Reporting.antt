@@ -1,10 +1,10 @@
 -- The report from what the reader and the run answer: the tables and records that the program lends are long enough for any circuit. Assumes nothing.
 use mathlib.Core.Path.{_≡_, refl, sym, ap, ap₂, _∙_}
 use mathlib.Core.List.{List, _++_}
-use Prim.Native.Nat.{ℕ, zero, suc, _+_, _/_, _≤_}
+use Prim.Native.Nat.{ℕ, _+_, _/_, _≤_}
 use native.Mathlib.Nat.{zero-add}
 use native.Mathlib.Omega.{arith}
-use lib.ListN.{length, take}
+use lib.ListN.{length}
 use Rattle.three.specs.Lists.{over}
 use Rattle.three.specs.Record.{bytesFor, unpack}
 use Rattle.circuit.specs.declared.Counts.{Counts}
@@ -22,9 +22,9 @@ use Rattle.text.proofs.Grammar.{describes}
 use Rattle.text.proofs.Tables.{taken}
 use Rattle.text.proofs.RoundTrip.{Filled, read-filled}
 use Rattle.text.proofs.Putting.{put-over}
-use Rattle.text.proofs.Numbers.{Numbered, read-numbered}
+use Rattle.text.proofs.Numbers.{read-numbered}
 use Rattle.run.specs.declared.RunAnswer.{RunAnswer}
-use Rattle.run.specs.Run.{closed, full, run}
+use Rattle.run.specs.Run.{run}
 use Rattle.run.specs.Call.{roomIn, Given, refusedBy, circuitIn, outcomeIn, Runs}
 use Rattle.run.proofs.Refusing.{run-passes}
 use Rattle.run.proofs.Promising.{outcome-is, verdict-is, settled-is, count-is, only-full}

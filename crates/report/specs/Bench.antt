@@ -1,6 +1,6 @@
 -- The report that document 01 shows, for S: computed from the text to the bytes. Assumes nothing.
 use mathlib.Core.Path.{_≡_, refl}
-use mathlib.Core.List.{List, flatMap, zipWith}
+use mathlib.Core.List.{flatMap, zipWith}
 use Rattle.three.specs.Lists.{tabulate, adjust}
 use Rattle.three.specs.Value.{code, both, inverse, ternary}
 use Rattle.three.specs.Cube.{alike, allows, subsumes, blank, agree, merged, knownFields}

@@ -3,16 +3,15 @@ use circuit::Counts;
 use libc::STDIN_FILENO;
 use libc::STDOUT_FILENO;
 use run::RunAnswer;
-ghost use mathlib.Core.Path.{_≡_};
 ghost use mathlib.Core.List.{_++_};
-ghost use Prim.Native.Nat.{_+_, _*_, _≤_, _<_};
+ghost use Prim.Native.Nat.{_+_, _*_, _≤_};
 ghost use lib.ListN.{length};
 ghost use Rattle.three.specs.Value.{decode};
 ghost use Rattle.three.specs.Record.{unpack};
 ghost use Rattle.text.specs.Written.{Put};
 ghost use Rattle.text.specs.Bench.{bytes};
 ghost use Rattle.report.specs.declared.Row.{Row};
-ghost use Rattle.report.specs.Report.{item, said, row as rowText, rows, closing, refusing, closedReport, Reported};
+ghost use Rattle.report.specs.Report.{item, said, row as rowText, rows, closing, refusing, Reported};
 
 // "takes w = 16 and a cube buffer of 65,536 bytes"
 const INTERVAL: usize = 16;

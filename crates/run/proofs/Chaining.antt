@@ -1,29 +1,26 @@
 -- The chain, cube by cube: what the buffer and the progress hold after each, and how the run goes on from there. Assumes nothing.
 use mathlib.Core.Path.{_≡_, refl, sym, ap, ap₂, _∙_}
-use mathlib.Core.Bool.{Bool, true, false, not, _||_}
-use mathlib.Core.List.{List, [], _∷_, _++_, map, append-nil, flatMap}
-use Prim.Native.Nat.{ℕ, zero, suc, _+_, _*_, _-_, _<_, _≤_, suc-le-suc}
-use native.Mathlib.Nat.{suc-mul, zero-mul, one-mul, mul-le-mul-right, not-suc-le-zero}
+use mathlib.Core.Bool.{Bool, true, false, _||_}
+use mathlib.Core.List.{List, [], _∷_, map, append-nil, flatMap}
+use Prim.Native.Nat.{ℕ, zero, suc, _+_, _*_, _-_, _<_, _≤_}
+use native.Mathlib.Nat.{suc-mul, one-mul}
 use native.Mathlib.Numerals.{add-one}
-use native.Mathlib.Decide.{decLt}
 use native.Mathlib.Omega.{arith}
-use borrow.Author.Tests.{eq-eqb}
 use lib.Bits.{bitAnd, bitOr}
 use lib.Dec.{eqb}
 use lib.ListN.{length, getD, take, drop, replicate, length-map, length-append, length-drop, getD-replicate, List·getD-append}
 use lib.Seq.{paste, getD-take, getD-drop, length-take-le}
 use Rattle.three.specs.Lists.{tabulate, every, adjust, over}
-use Rattle.three.specs.Value.{unknown}
 use Rattle.three.specs.Cube.{Cube, subsumes}
-use Rattle.three.specs.Record.{bytesFor, byteAt, pack, unpack, IsRecord}
-use Rattle.three.proofs.Lists.{by-test, every-ext, length-tabulate, getD-tabulate, tabulate-ext, length-adjust}
-use Rattle.three.proofs.Pack.{length-pack, getD-pack}
+use Rattle.three.specs.Record.{bytesFor, pack, unpack, IsRecord}
+use Rattle.three.proofs.Lists.{every-ext, length-tabulate, getD-tabulate, tabulate-ext, length-adjust}
+use Rattle.three.proofs.Pack.{getD-pack}
 use Rattle.three.proofs.Bytewise.{covers, covers-subsumes}
 use Rattle.circuit.specs.declared.Counts.{Counts}
 use Rattle.circuit.specs.Circuit.{Circuit, Latch, next}
 use Rattle.circuit.specs.Table.{circuitOf}
 use Rattle.run.specs.declared.Progress.{Progress}
-use Rattle.run.specs.Run.{hold, differing, due, nextCube, start, Stage, reached, widened, store, stage, cubeAt, Found, at, nowhere, search, Outcome, closed, full, back, run}
+use Rattle.run.specs.Run.{hold, differing, due, nextCube, start, Stage, reached, widened, store, stage, cubeAt, Found, at, nowhere, search, closed, full, back, run}
 use Rattle.run.specs.Bytes.{startFields, heldPair, heldByte, keptByte, keptBytes, differingByte, widenedBytes, heldAfter, coversFrom, first, Advanced, Ready}
 use Rattle.run.proofs.Wider.{reached-sized, cube-sized}
 use Rattle.run.proofs.Closes.{held-sized}

@@ -1,8 +1,8 @@
 -- The loop that follows the chain: what each call asks and gives, and the two ways out. Assumes nothing.
 use mathlib.Core.Path.{_≡_, refl, sym, ap, _∙_}
-use mathlib.Core.Bool.{Bool, true, false}
+use mathlib.Core.Bool.{true, false}
 use mathlib.Core.List.{List}
-use Prim.Native.Nat.{ℕ, zero, suc, _+_, _*_, _-_, _/_, _<_, _≤_}
+use Prim.Native.Nat.{ℕ, suc, _+_, _*_, _-_, _/_, _<_, _≤_}
 use native.Mathlib.Nat.{suc-mul, one-mul, mul-comm, mul-le-mul-right, add-sub-of-le, div-mul-le-self, le-div-iff-mul-le}
 use native.Mathlib.Omega.{arith}
 use lib.ListN.{length, drop, replicate}
@@ -14,7 +14,7 @@ use Rattle.circuit.specs.declared.Counts.{Counts}
 use Rattle.circuit.specs.Table.{circuitOf, Legal}
 use Rattle.run.specs.declared.Progress.{Progress}
 use Rattle.run.specs.declared.Chain.{Chain}
-use Rattle.run.specs.Run.{due, nextCube, cubeAt, Outcome, closed, full, run}
+use Rattle.run.specs.Run.{due, nextCube, cubeAt, closed, full, run}
 use Rattle.run.specs.Bytes.{startFields, packedCubes, keptBytes, coversFrom, first, Advanced, Ready}
 use Rattle.run.specs.Call.{roomIn, storedCubes, isClosed, backTo, Chained, Followable}
 use Rattle.run.proofs.Keeping.{length-kept, behind-one}

@@ -1,15 +1,14 @@
 -- Laws of the held-latch record: setting held latches to X and holding more of them, byte by byte. Assumes nothing.
-use mathlib.Core.Path.{_≡_, refl, sym, ap, ap₂, _∙_}
+use mathlib.Core.Path.{_≡_, refl, sym, ap, _∙_}
 use mathlib.Core.Bool.{Bool, true, false}
 use mathlib.Core.List.{List}
-use Prim.Native.Nat.{ℕ, zero, suc, _+_, _*_, _-_, _/_, _%_, _<_, _≤_}
+use Prim.Native.Nat.{ℕ, zero, suc, _+_, _*_, _/_, _%_, _<_, _≤_}
 use native.Mathlib.Nat.{zero-add, one-mul, mul-le-mul-right}
 use native.Mathlib.Omega.{arith}
-use lib.Bits.{bitAnd, bitOr, bitXor, and-le-r}
+use lib.Bits.{bitOr, bitXor, and-le-r}
 use lib.Dec.{eqb}
 use lib.ListN.{length, getD, set, drop, length-drop}
 use lib.Seq.{paste, getD-drop}
-use Rattle.three.specs.Lists.{tabulate}
 use Rattle.three.proofs.Lists.{Stored, stored-next, getD-paste, length-tabulate, getD-tabulate}
 use Rattle.run.specs.Run.{due}
 use Rattle.run.specs.Bytes.{keptByte, differingByte, widenedBytes, keptBytes, heldAfter}

@@ -5,10 +5,10 @@ use mathlib.Core.List.{List}
 use Prim.Native.Nat.{ℕ, zero, suc, _+_, _*_, _-_, _%_, _<_, _≤_}
 use native.Mathlib.Nat.{mod-lt}
 use native.Mathlib.Omega.{arith}
-use lib.ListN.{length, getD}
+use lib.ListN.{length}
 use Rattle.three.specs.Lists.{over}
-use Rattle.three.specs.Cube.{Cube, _∋_, knownFields}
-use Rattle.three.specs.Record.{pack, unpack}
+use Rattle.three.specs.Cube.{knownFields}
+use Rattle.three.specs.Record.{unpack}
 use Rattle.three.proofs.Lists.{length-tabulate}
 use Rattle.three.proofs.Pack.{unpack-over}
 use Rattle.circuit.specs.declared.Counts.{Counts}
@@ -18,8 +18,7 @@ use Rattle.circuit.proofs.Refusals.{accepted-new}
 use Rattle.run.specs.declared.RunAnswer.{RunAnswer}
 use Rattle.run.specs.Run.{cubeAt, Outcome, closed, full, run, verdict, settled}
 use Rattle.run.specs.Bytes.{cubeIn, packedCubes}
-use Rattle.run.specs.Call.{roomIn, storedCubes, isClosed, backTo, outcomeNumber, Given, refusedBy, circuitIn, outcomeIn, cubesIn, backIn, verdictFields, settledFields, Runs}
-use Rattle.run.specs.Execution.{stateAfter, resets}
+use Rattle.run.specs.Call.{roomIn, storedCubes, isClosed, outcomeNumber, Given, refusedBy, circuitIn, outcomeIn, cubesIn, backIn, verdictFields, settledFields, Runs}
 use Rattle.run.specs.Promise.{Covered, Promises}
 use Rattle.run.proofs.Promise.{resets-start, covered-early, covered-late, lamp-judged, latch-settled}
 use Rattle.run.proofs.Closes.{run-closes}

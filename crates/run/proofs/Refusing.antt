@@ -1,12 +1,12 @@
 -- The run's refusals before 15, in order, and what holds where none is given. Assumes nothing.
-use mathlib.Core.Path.{_≡_, refl, sym, _∙_}
+use mathlib.Core.Path.{_≡_}
 use mathlib.Core.List.{List, _++_}
-use Prim.Native.Nat.{ℕ, zero, suc, _<_, _≤_}
+use Prim.Native.Nat.{ℕ, _<_, _≤_}
 use native.Mathlib.Omega.{arith}
 use borrow.Author.Tests.{le-leb, lt-leb, leb-true}
 use Rattle.three.specs.Record.{bytesFor}
 use Rattle.circuit.specs.declared.Counts.{Counts}
-use Rattle.circuit.specs.Refusal.{Test, refusal, Passed}
+use Rattle.circuit.specs.Refusal.{Test, refusal}
 use Rattle.circuit.specs.Table.{ceilingTests, Legal}
 use Rattle.circuit.specs.Tick.{circuitTests}
 use Rattle.circuit.proofs.Refusals.{Numbered, stops, past, none, passes, passed-append, refuses-whole, append-past}

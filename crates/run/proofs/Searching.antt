@@ -1,5 +1,5 @@
 -- The search over stored records, turn by turn: k records are passed, and i bytes of the next. Assumes nothing.
-use mathlib.Core.Path.{_≡_, refl, sym, ap, _∙_}
+use mathlib.Core.Path.{_≡_, refl, sym, ap}
 use mathlib.Core.Bool.{Bool, true, false}
 use mathlib.Core.List.{List}
 use Prim.Native.Nat.{ℕ, zero, suc, _+_, _*_, _<_, _≤_, suc-le-suc}
@@ -11,7 +11,6 @@ use borrow.Author.Tests.{eq-eqb, ne-eqb}
 use lib.Bits.{bitAnd}
 use lib.Dec.{eqb}
 use lib.ListN.{length, getD}
-use Rattle.three.specs.Lists.{every}
 use Rattle.three.proofs.Lists.{by-test, Tried, tried-first, tried-next, every-all, every-fails}
 use Rattle.run.specs.Bytes.{coversFrom, first}
 

@@ -1,6 +1,6 @@
 -- The run (document 01, Run): cubes from the resets on, until one falls inside a stored one. Assumes nothing.
 use mathlib.Core.Bool.{Bool, true, false, not, _||_}
-use mathlib.Core.List.{List, [], _∷_, map, zipWith}
+use mathlib.Core.List.{List, map, zipWith}
 use Prim.Native.Nat.{ℕ, zero, suc, _+_, _-_, _%_}
 use lib.ListN.{replicate}
 use lib.Dec.{eqb}

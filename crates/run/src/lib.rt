@@ -2,14 +2,13 @@
 use circuit::Counts;
 ghost use mathlib.Core.Path.{_≡_};
 ghost use mathlib.Core.Bool.{true};
-ghost use Prim.Native.Nat.{ℕ, _+_, _*_, _-_, _<_, _≤_};
+ghost use Prim.Native.Nat.{_+_, _*_, _-_, _<_, _≤_};
 ghost use lib.ListN.{length, getD, drop};
 ghost use lib.Seq.{paste};
 ghost use Rattle.three.specs.Lists.{over};
 ghost use Rattle.three.specs.Value.{unknown, code};
 ghost use Rattle.three.specs.Record.{bytesFor, byteAt, pack, unpack, IsRecord};
 ghost use Rattle.circuit.specs.Table.{circuitOf, Legal};
-ghost use Rattle.circuit.specs.Working.{Working};
 ghost use Rattle.run.specs.Run.{due as isDue, nextCube, lampsIn, verdict as verdictOf, settled as settledOf};
 ghost use Rattle.run.specs.Bytes.{cubeIn, startFields, keptByte, differingByte, heldAfter, widenedBytes, keptBytes, coversFrom, first, Advanced, Ready};
 ghost use Rattle.run.specs.Call.{Followable, Chained, Judgeable, Settleable, Judgement, runTests, Runs};

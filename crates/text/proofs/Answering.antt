@@ -17,7 +17,7 @@ use Rattle.text.specs.Text.{readBody, header, countsOf, headerTests, rea
 use Rattle.text.specs.Calls.{zeros, Reading}
 use Rattle.text.specs.declared.ReadLine.{ReadLine}
 use Rattle.text.specs.declared.Judgement.{Judgement}
-use Rattle.text.specs.Reader.{from, numbersOf, LineFound, verdict, answer, BodyAt, TextJudged, bodyWords, Fillable}
+use Rattle.text.specs.Reader.{from, numbersOf, LineFound, verdict, answer, BodyAt, TextJudged, bodyWords, stand, Fillable}
 use Rattle.circuit.proofs.Refusals.{passes}
 use Rattle.text.proofs.Tables.{passed-bounded}
 use Rattle.text.proofs.Steps.{text-long, header-ill, header-stops, header-fits}
@@ -75,13 +75,13 @@ module _ (text table : List ℕ) {j : Judgement} (t : TextJudged text j) where
     starts = t .starts h
 
     -- the body is read as its words
-    body-accepted : readBody (top (j .counts)) (kinds (j .counts)) (from text (j .body)) ≡ accepted (bodyWords (j .counts) (from text (j .body)))
+    body-accepted : readBody (top (j .counts)) (kinds (j .counts)) (from text (j .body)) ≡ accepted (bodyWords (j .counts) (kinds (j .counts)) (from text (j .body)))
     unfolding bodyWords leaves
     body-accepted =
         let a = accepted-verdict _ (sym (verdict-onward _ _) ∙ sym (ap verdict (starts .on)) ∙ t .says ∙ after-none _ h) in
         a .1 ∙ ap accepted (sym (ap (leaves (λ ws. ws) _) (a .1)))
 
-    text-accepted : readText text ≡ accepted (record { counts = j .counts; words = bodyWords (j .counts) (from text (j .body)) })
+    text-accepted : readText text ≡ accepted (record { counts = j .counts; words = bodyWords (j .counts) (kinds (j .counts)) (from text (j .body)) })
     unfolding onward
     text-accepted = starts .on ∙ rw body-accepted
 
@@ -89,8 +89,8 @@ module _ (text table : List ℕ) {j : Judgement} (t : TextJudged text j) where
     answers-short e k s = rw (e, k) (reading-refused text table (read-short text table text-accepted s))
 
     module _ (s : tableLength (j .counts) ≤ length table) where
-      pub fillable : Fillable text (j .body) (j .counts) table
-      fillable = record { bounded = starts .bounded; within = starts .within; accepts = body-accepted; room = rw (describes text text-accepted .whole) s }
+      pub fillable : Fillable text (j .counts) (stand (kinds (j .counts)) (j .body) 0 table)
+      fillable = record { bounded = starts .bounded; within = starts .within; accepts = body-accepted; room = omega (arith, describes text text-accepted .whole) }
 
-      pub answers-filled : {table′ : List ℕ} → table′ ≡ over (bodyWords (j .counts) (from text (j .body))) table → Reading text table 0 (j .counts) table′
+      pub answers-filled : {table′ : List ℕ} → table′ ≡ over (bodyWords (j .counts) (kinds (j .counts)) (from text (j .body))) table → Reading text table 0 (j .counts) table′
       answers-filled e = rw e (reading-accepted text table (read-fits text table text-accepted s))

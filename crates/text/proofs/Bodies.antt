@@ -1,19 +1,16 @@
--- The body, line by line: the line due in each place, and the two passes over the lines, turn by turn. Assumes nothing.
+-- The body, line by line: a line found, and the first pass over the lines, turn by turn. Assumes nothing.
 use mathlib.Core.Path.{_≡_, refl, sym, _∙_, ap}
 use mathlib.Core.Bool.{Bool, true, false}
 use mathlib.Core.List.{List, [], _∷_}
 use Prim.Native.Nat.{ℕ, zero, suc, _+_, _*_, _-_, _≤_, _<_}
 use native.Mathlib.Nat.{not-suc-le-zero}
-use native.Mathlib.Numerals.{add-one}
 use native.Mathlib.Omega.{arith}
 use borrow.Author.Tests.{ltb-true, ltb-false, eqb-true, eqb-false, eq-eqb, ne-eqb}
 use lib.Dec.{ltb, eqb}
-use lib.ListN.{length, getD, take, drop, drop-of-length-le}
-use lib.Seq.{drop-cons}
+use lib.ListN.{length, getD, take}
 use Rattle.three.proofs.Lists.{by-test}
 use Rattle.circuit.specs.declared.Counts.{Counts}
 use Rattle.circuit.specs.Table.{top, Kind, input, latch, lamp, gate, several, kinds}
-use Rattle.text.specs.declared.Row.the-variants.{Input, Latch, Lamp, Gate}
 use Rattle.circuit.specs.Refusal.{refusal}
 use Rattle.text.specs.Part.{Part, got, ill}
 use Rattle.text.specs.Line.{strip, splitLine}
@@ -21,65 +18,13 @@ use Rattle.text.specs.Outcome.{Outcome, accepted, refused, after, onward
 use Rattle.text.specs.Text.{fits, lineTests, ends, readBody}
 use Rattle.text.specs.declared.ReadLine.{ReadLine}
 use Rattle.text.specs.declared.Judged.{Judged}
-use Rattle.text.specs.Reader.{from, counted, numbersOf, LineFound, kindOf, lineCount, verdict, answer, LineJudged}
+use Rattle.text.specs.Reader.{from, counted, numbersOf, LineFound, verdict, answer, LinesJudged, latchesOn, lampsOn, gatesOn}
+use Rattle.text.specs.Written.{coded}
 use Rattle.text.proofs.Outcomes.{refused-accepted}
 use Rattle.text.proofs.Steps.{end-stops, end-fits, line-ill, line-stops, line-fits}
 use Rattle.text.proofs.Finding.{from-end, from-byte}
+use Rattle.text.proofs.Tables.{linesFrom, lines-first, lines-next, lines-last}
 use Rattle.text.proofs.Judging.{line-count}
-
--- ---- the line due in a place
-
-module _ (kind : ℕ → Kind) where
-  several-within : (own n : ℕ) (ks : List Kind) (i : ℕ) → i < n → getD (several kind own n ks) i lamp ≡ kind (own + 2 * i)
-  unfolding several
-  several-within own zero ks i h = absurd (not-suc-le-zero h)
-  several-within own (suc n) ks zero h = ap kind (omega arith)
-  several-within own (suc n) ks (suc i) h = several-within (own + 2) n ks i (omega arith) ∙ ap kind (omega arith)
-
-  several-beyond : (own n : ℕ) (ks : List Kind) (i : ℕ) → getD (several kind own n ks) (n + i) lamp ≡ getD ks i lamp
-  unfolding several
-  several-beyond own zero ks i = let z : 0 + i ≡ i = omega arith in rw z
-  several-beyond own (suc n) ks i = let z : suc n + i ≡ suc (n + i) = omega arith in rw z (several-beyond (own + 2) n ks i)
-
-  several-length : (own n : ℕ) (ks : List Kind) → length (several kind own n ks) ≡ n + length ks
-  unfolding several
-  several-length own zero ks = omega arith
-  several-length own (suc n) ks = omega (arith, several-length (own + 2) n ks)
-
-module _ (c : Counts) (i : ℕ) where
-  pub due-input : i < c .inputs → kindOf (Input (2 + 2 * i)) ≡ getD (kinds c) i lamp
-  unfolding kindOf kinds
-  due-input h = sym (several-within input 2 (c .inputs) _ i h)
-
-  pub due-latch : c .inputs ≤ i → i < c .inputs + c .latches → kindOf (Latch (2 + 2 * i)) ≡ getD (kinds c) i lamp
-  unfolding kindOf kinds
-  due-latch p h =
-      let z : i ≡ c .inputs + (i - c .inputs) = omega arith in
-      sym (ap (λ x. getD (kinds c) x lamp) z ∙ several-beyond input 2 (c .inputs) _ _ ∙ several-within latch _ (c .latches) _ (i - c .inputs) (omega arith) ∙ ap latch (omega arith))
-
-  pub due-lamp : c .inputs + c .latches ≤ i → i < c .inputs + c .latches + c .lamps → kindOf Lamp ≡ getD (kinds c) i lamp
-  unfolding kindOf kinds
-  due-lamp p h =
-      let z : i ≡ c .inputs + (c .latches + (i - c .inputs - c .latches)) = omega arith in
-      sym (ap (λ x. getD (kinds c) x lamp) z ∙ several-beyond input 2 (c .inputs) _ _ ∙ several-beyond latch _ (c .latches) _ _ ∙ several-within (λ own. lamp) _ (c .lamps) _ (i - c .inputs - c .latches) (omega arith))
-
-  pub due-gate : c .inputs + c .latches + c .lamps ≤ i → i < lineCount c → kindOf (Gate (2 + 2 * (i - c .lamps))) ≡ getD (kinds c) i lamp
-  unfolding kindOf kinds
-  due-gate p h =
-      let z : i ≡ c .inputs + (c .latches + (c .lamps + (i - c .inputs - c .latches - c .lamps))) = omega arith in
-      sym (ap (λ x. getD (kinds c) x lamp) z ∙ several-beyond input 2 (c .inputs) _ _ ∙ several-beyond latch _ (c .latches) _ _ ∙ several-beyond (λ own. lamp) _ (c .lamps) _ _
-      ∙ several-within gate _ (c .gates) _ (i - c .inputs - c .latches - c .lamps) (omega arith) ∙ ap gate (omega arith))
-
-kinds-length : (c : Counts) → length (kinds c) ≡ lineCount c
-unfolding kinds
-kinds-length c = simp several-length (omega arith)
-
--- the line due and those after it
-pub lines-cons : (c : Counts) (i : ℕ) → i < lineCount c → drop i (kinds c) ≡ getD (kinds c) i lamp ∷ drop (i + 1) (kinds c)
-lines-cons c i h = drop-cons (kinds c) i lamp (omega (arith, kinds-length c)) ∙ rw add-one
-
-pub lines-end : (c : Counts) (i : ℕ) → lineCount c ≤ i → drop i (kinds c) ≡ []
-lines-end c i h = drop-of-length-le (kinds c) {i = i} (omega (arith, kinds-length c))
 
 -- ---- a line found
 
@@ -141,7 +86,7 @@ no-numbers lamp = refl
 no-numbers (gate own) = refl
 
 pub line-judged : (text : List ℕ) (at most : ℕ) (k : Kind) (l : ReadLine) (n : ℕ) → LineFound text (splitLine 3 (from text at)) l → n ≡ refusal (lineTests most k (numbersOf l))
-    → LineJudged text at most k (record { number = n; next = l .next })
+    → LinesJudged text at most (λ ks. k ∷ ks) (record { number = n; next = l .next })
 line-judged text at most k l n f e = record {
   says = λ ks. by-test (ltb 0 (l .count))
       (λ h. on ks n e (line-got l f (ltb-true 0 (l .count) h)))
@@ -180,33 +125,92 @@ module _ (text : List ℕ) (at : ℕ) where
         (λ b. let d = eq-eqb 10 x (sym (eqb-true x 10 b)) in rw (b, ends, strip, d))
         (λ b. let d = ne-eqb 10 x (λ q. eqb-false x 10 b (sym q)) in rw (b, ends, strip, d)))
 
--- ---- the first pass: i lines are judged, and the next one stands at `next`
+-- ---- the first pass: of n lines of one kind i are judged, and the next one stands at `next`
 
-module _ (text : List ℕ) (at : ℕ) (c : Counts) where
+module _ (text : List ℕ) (at most : ℕ) (kind : ℕ → Kind) (own n : ℕ) where
   pub record Turns (next i : ℕ) : Type 0 where
-    pub few : i ≤ lineCount c
+    pub few : i ≤ n
     pub within : next ≤ length text
-    pub same : verdict (readBody (top c) (kinds c) (from text at)) ≡ verdict (readBody (top c) (drop i (kinds c)) (from text next))
+    pub same : (ks : List Kind) → verdict (readBody most (several kind own n ks) (from text at)) ≡ verdict (readBody most (linesFrom kind own n ks i) (from text next))
 
   pub turns-first : at ≤ length text → Turns at 0
-  turns-first h = record { few = omega arith; within = h; same = refl }
+  turns-first h = record { few = omega arith; within = h; same = λ ks. ap (λ l. verdict (readBody most l (from text at))) (lines-first kind own n ks) }
 
   module _ {next i : ℕ} (s : Turns next i) where
-    module _ (h : i < lineCount c) {k : Kind} (e : k ≡ getD (kinds c) i lamp) {j : Judged} (f : LineJudged text next (top c) k j) where
-      line-says : verdict (readBody (top c) (kinds c) (from text at)) ≡ after (j .number) (verdict (readBody (top c) (drop (i + 1) (kinds c)) (from text (j .next))))
-      line-says = s .same ∙ rw (lines-cons c i h, ← e) (f .says _)
+    module _ (h : i < n) {j : Judged} (f : LinesJudged text next most (λ ks. kind (own + 2 * i) ∷ ks) j) where
+      line-says : (ks : List Kind) → verdict (readBody most (several kind own n ks) (from text at)) ≡ after (j .number) (verdict (readBody most (linesFrom kind own n ks (i + 1)) (from text (j .next))))
+      line-says ks = s .same ks ∙ rw (lines-next kind own n ks i h) (f .says _)
 
-      pub turns-stop : (j .number ≡ 0 → ⊥) → verdict (readBody (top c) (kinds c) (from text at)) ≡ answer (j .number)
-      turns-stop n = line-says ∙ after-refused _ _ n ∙ sym (after-refused _ _ n)
+      pub turns-stop : (j .number ≡ 0 → ⊥) → LinesJudged text at most (several kind own n) j
+      turns-stop z = record { says = λ ks. line-says ks ∙ after-refused _ _ z ∙ sym (after-refused _ _ z); within = f .within }
 
       pub turns-next : j .number ≡ 0 → Turns (j .next) (i + 1)
-      turns-next n = record { few = omega arith; within = f .within; same = line-says ∙ after-none _ n }
+      turns-next z = record { few = omega arith; within = f .within; same = λ ks. line-says ks ∙ after-none _ z }
 
-    module _ (h : lineCount c ≤ i) {b : Bool} (e : b ≡ ends (from text next)) where
-      pub turns-over : b ≡ false → verdict (readBody (top c) (kinds c) (from text at)) ≡ answer 9
-      unfolding after
-      turns-over f = s .same ∙ rw (lines-end c i h) (verdict-refused (end-stops (top c) _ (sym e ∙ f)))
+    pub turns-last : n ≤ i → LinesJudged text at most (several kind own n) (record { number = 0; next = next })
+    turns-last h = record {
+      says = λ ks. s .same ks ∙ ap (λ l. verdict (readBody most l (from text next))) (lines-last kind own n ks i h) ∙ sym (after-none _ refl);
+      within = s .within;
+    }
 
-      pub turns-last : b ≡ true → verdict (readBody (top c) (kinds c) (from text at)) ≡ answer 0
-      unfolding after verdict onward
-      turns-last f = s .same ∙ rw (lines-end c i h, end-fits (top c) (from text next) (sym e ∙ f))
+-- ---- the first pass: the lines of each kind in turn, and then the end; the first refusal decides
+
+module _ {text : List ℕ} {at most : ℕ} {lines : List Kind → List Kind} {j : Judged} (a : LinesJudged text at most lines j) (ks : List Kind) where
+  judged-stop : (j .number ≡ 0 → ⊥) → verdict (readBody most (lines ks) (from text at)) ≡ answer (j .number)
+  judged-stop z = a .says ks ∙ after-refused _ _ z ∙ sym (after-refused _ _ z)
+
+  judged-on : j .number ≡ 0 → verdict (readBody most (lines ks) (from text at)) ≡ verdict (readBody most ks (from text (j .next)))
+  judged-on z = a .says ks ∙ after-none _ z
+
+module _ (text : List ℕ) (at : ℕ) (c : Counts) where
+  -- the lines left decide, from the position where they stand
+  abbrev Left : List Kind → ℕ → Type 0
+  Left ks next = verdict (readBody (top c) (kinds c) (from text at)) ≡ verdict (readBody (top c) ks (from text next))
+
+  abbrev Says : ℕ → Type 0
+  Says n = verdict (readBody (top c) (kinds c) (from text at)) ≡ answer n
+
+  module _ {i : Judged} (inputs : LinesJudged text at (top c) (several (coded 0) 2 (c .inputs)) i) where
+    pub stop-inputs : (i .number ≡ 0 → ⊥) → Says (i .number)
+    unfolding kinds coded
+    stop-inputs = judged-stop inputs (latchesOn c)
+
+    module _ (y : i .number ≡ 0) {j : Judged} (latches : LinesJudged text (i .next) (top c) (several (coded 1) (2 + 2 * c .inputs) (c .latches)) j) where
+      to-latches : Left (latchesOn c) (i .next)
+      unfolding kinds coded
+      to-latches = judged-on inputs (latchesOn c) y
+
+      pub stop-latches : (j .number ≡ 0 → ⊥) → Says (j .number)
+      unfolding coded
+      stop-latches z = to-latches ∙ judged-stop latches (lampsOn c) z
+
+      module _ (x : j .number ≡ 0) {k : Judged} (lamps : LinesJudged text (j .next) (top c) (several (coded 2) 0 (c .lamps)) k) where
+        to-lamps : Left (lampsOn c) (j .next)
+        unfolding coded
+        to-lamps = to-latches ∙ judged-on latches (lampsOn c) x
+
+        pub stop-lamps : (k .number ≡ 0 → ⊥) → Says (k .number)
+        unfolding coded
+        stop-lamps z = to-lamps ∙ judged-stop lamps (gatesOn c) z
+
+        module _ (w : k .number ≡ 0) {l : Judged} (gates : LinesJudged text (k .next) (top c) (several (coded 3) (2 + 2 * c .inputs + 2 * c .latches) (c .gates)) l) where
+          to-gates : Left (gatesOn c) (k .next)
+          unfolding coded
+          to-gates = to-lamps ∙ judged-on lamps (gatesOn c) w
+
+          pub stop-gates : (l .number ≡ 0 → ⊥) → Says (l .number)
+          unfolding coded
+          stop-gates z = to-gates ∙ judged-stop gates [] z
+
+          module _ (v : l .number ≡ 0) {b : Bool} (e : b ≡ ends (from text (l .next))) where
+            to-end : Left [] (l .next)
+            unfolding coded
+            to-end = to-gates ∙ judged-on gates [] v
+
+            pub end-over : b ≡ false → Says 9
+            unfolding after
+            end-over f = to-end ∙ verdict-refused (end-stops (top c) _ (sym e ∙ f))
+
+            pub end-last : b ≡ true → Says 0
+            unfolding after verdict onward
+            end-last f = to-end ∙ ap verdict (end-fits (top c) (from text (l .next)) (sym e ∙ f))

@@ -1,11 +1,9 @@
 -- A refusal has a number: no text is refused by 0, so that 0 always says what was read. Assumes nothing.
 use mathlib.Core.List.{List, [], _∷_}
-use mathlib.Core.Path.{_≡_}
 use Prim.Native.Nat.{ℕ, zero, suc, _≤_}
 use native.Mathlib.Omega.{arith}
 use Rattle.circuit.specs.Refusal.{Test, refusal}
 use Rattle.circuit.specs.Table.{Kind, kinds, top}
-use Rattle.text.specs.Part.{got, ill}
 use Rattle.text.specs.Line.{splitLine}
 use Rattle.text.specs.Outcome.{Outcome, accepted, refused, after, tested, onward}
 use Rattle.text.specs.Text.{readBody, header, countsOf, readText}

@@ -29,14 +29,17 @@ put-then {d} {e} {f} {p} {q} {r} {s} {t} a b = record {
 }
 
 -- a list that is put from the front
-pub put-over : {d s e : List ℕ} {q : ℕ} → Put d 0 s e q → length s ≤ length d → e ≡ over s d
+pub sets-front : (d s : List ℕ) → length s ≤ length d → sets d 0 s ≡ over s d
 unfolding over
-put-over {d} {s} p h = p .same ∙ sets-eq s d 0 (rw zero-add h) ∙ rw zero-add
+sets-front d s h = sets-eq s d 0 (rw zero-add h) ∙ rw zero-add
+
+pub put-over : {d s e : List ℕ} {q : ℕ} → Put d 0 s e q → length s ≤ length d → e ≡ over s d
+put-over {d} {s} p h = p .same ∙ sets-front d s h
 
 -- ---- a number, from its last digit
 
-pub put-small : {d e : List ℕ} {p q b : ℕ} (n : ℕ) → n < 10 → b ≡ 48 + n → Put d p (b ∷ []) e q → Put d p (decimal n) e q
-put-small n h b= a = rw (decimal-small n h, ← b=) a
+pub put-small : {d e : List ℕ} {p q : ℕ} (n : ℕ) → n < 10 → Put d p ((48 + n) ∷ []) e q → Put d p (decimal n) e q
+put-small n h a = rw (decimal-small n h) a
 
-pub put-more : {d e f : List ℕ} {p q r b : ℕ} (n : ℕ) → 10 ≤ n → b ≡ 48 + n % 10 → Put d p (decimal (n / 10)) e q → Put e q (b ∷ []) f r → Put d p (decimal n) f r
-put-more n h b= a z = rw (decimal-more n h, ← b=) (put-then a z)
+pub put-more : {d e f : List ℕ} {p q r : ℕ} (n : ℕ) → 10 ≤ n → Put d p (decimal (n / 10)) e q → Put e q ((48 + n % 10) ∷ []) f r → Put d p (decimal n) f r
+put-more n h a z = rw (decimal-more n h) (put-then a z)

@@ -7,7 +7,7 @@ use native.Mathlib.Omega.{arith}
 use lib.ListN.{length, length-append, getD, drop}
 use lib.Seq.{getD-drop}
 use Rattle.circuit.specs.declared.Counts.{Counts}
-use Rattle.circuit.specs.Table.{variables, gate, width}
+use Rattle.circuit.specs.Table.{variables, input, latch, lamp, gate, width}
 use Rattle.text.specs.declared.LineNumbers.{LineNumbers}
 use Rattle.text.specs.Decimal.{decimal}
 use Rattle.text.specs.Line.{newline, space, lineText}
@@ -90,7 +90,19 @@ width-alike (suc zero) own = refl
 width-alike (suc (suc zero)) own = refl
 width-alike (suc (suc (suc k))) own = refl
 
-coded-gate : (k own : ℕ) → (k ≡ 0 → ⊥) → (k ≡ 1 → ⊥) → (k ≡ 2 → ⊥) → coded k own ≡ gate own
+pub coded-input : {k : ℕ} (own : ℕ) → k ≡ 0 → coded k own ≡ input own
+unfolding coded
+coded-input own e = rw e
+
+pub coded-latch : {k : ℕ} (own : ℕ) → k ≡ 1 → coded k own ≡ latch own
+unfolding coded
+coded-latch own e = rw e
+
+pub coded-lamp : {k : ℕ} (own : ℕ) → k ≡ 2 → coded k own ≡ lamp
+unfolding coded
+coded-lamp own e = rw e
+
+pub coded-gate : (k own : ℕ) → (k ≡ 0 → ⊥) → (k ≡ 1 → ⊥) → (k ≡ 2 → ⊥) → coded k own ≡ gate own
 unfolding coded
 coded-gate zero own f g h = absurd (f refl)
 coded-gate (suc zero) own f g h = absurd (g refl)

@@ -2,11 +2,11 @@
 use mathlib.Core.Path.{_≡_}
 use mathlib.Core.Bool.{Bool, true, false}
 use mathlib.Core.List.{List, [], _∷_}
-use Prim.Native.Nat.{ℕ, zero, suc, _+_, _-_, _≤_, _<_}
+use Prim.Native.Nat.{ℕ, zero, suc, _+_, _*_, _-_, _≤_, _<_}
 use lib.ListN.{length, getD, take, drop}
 use lib.Seq.{sets}
 use Rattle.circuit.specs.declared.Counts.{Counts}
-use Rattle.circuit.specs.Table.{top, Kind, input, latch, lamp, gate, kinds, Bounded}
+use Rattle.circuit.specs.Table.{top, Kind, latch, lamp, gate, several, kinds, Bounded}
 use Rattle.text.specs.declared.ReadNumber.{ReadNumber}
 use Rattle.text.specs.declared.ReadNumber.the-variants.{Value, NoNumber}
 use Rattle.text.specs.declared.InLine.{InLine}
@@ -14,8 +14,6 @@ use Rattle.text.specs.declared.InLine.the-variants.{Last, More, NotInLin
 use Rattle.text.specs.declared.ReadLine.{ReadLine}
 use Rattle.text.specs.declared.Judged.{Judged}
 use Rattle.text.specs.declared.Judgement.{Judgement}
-use Rattle.text.specs.declared.Row.{Row}
-use Rattle.text.specs.declared.Row.the-variants.{Input, Latch, Lamp, Gate}
 use Rattle.text.specs.Part.{Part, got, ill}
 use Rattle.text.specs.Decimal.{isDigit}
 use Rattle.text.specs.Line.{strip, prepend, splitLine}
@@ -89,19 +87,6 @@ pub record LineFound (text : List ℕ) (p : Part (List ℕ)) (l : ReadLine) : Ty
 unfoldable pub opened : List ℕ → Bool
 opened text = elim (strip magic text) [ got u r ↦ true | ill ↦ false ]
 
--- ---- the line due in a place
-
--- its kind, with its own literal
-unfoldable pub kindOf : Row → Kind
-kindOf (Input own) = input own
-kindOf (Latch own) = latch own
-kindOf Lamp = lamp
-kindOf (Gate own) = gate own
-
--- so many lines
-abbrev pub lineCount : Counts → ℕ
-lineCount c = c .inputs + c .latches + c .lamps + c .gates
-
 -- ---- the first pass
 
 -- an outcome without what is read
@@ -112,9 +97,9 @@ verdict o = onward (λ a. tt) o
 abbrev pub answer : ℕ → Outcome (Unit {0})
 answer n = after n (accepted tt)
 
--- A line of kind k judged: its refusal, or else the lines after it decide
-pub record LineJudged (text : List ℕ) (at most : ℕ) (k : Kind) (j : Judged) : Type 0 where
-  pub says : (ks : List Kind) → verdict (readBody most (k ∷ ks) (from text at)) ≡ after (j .number) (verdict (readBody most ks (from text (j .next))))
+-- Lines judged that stand in front of any others: their refusal, or else the others decide
+pub record LinesJudged (text : List ℕ) (at most : ℕ) (lines : List Kind → List Kind) (j : Judged) : Type 0 where
+  pub says : (ks : List Kind) → verdict (readBody most (lines ks) (from text at)) ≡ after (j .number) (verdict (readBody most ks (from text (j .next))))
   pub within : j .next ≤ length text
 
 -- The first line is as it should be, and the body starts at `at`
@@ -139,18 +124,43 @@ pub record WordsFit (ws : List ℕ) (p : ℕ) (table : List ℕ) : Type 0 where
   pub small : (i : ℕ) → getD ws i 0 < 65536
   pub room : p + length ws ≤ length table
 
--- The words are stored, and the place behind them is r
-pub record WordsFilled (ws : List ℕ) (p : ℕ) (table : List ℕ) (r : ℕ) (table′ : List ℕ) : Type 0 where
-  pub same : table′ ≡ sets table p ws
-  pub place : r ≡ p + length ws
+-- the words that lines of a text are read as
+unfoldable pub bodyWords : Counts → List Kind → List ℕ → List ℕ
+bodyWords c ks t = leaves (λ ws. ws) [] (readBody (top c) ks t)
 
--- the words that a body is read as
-unfoldable pub bodyWords : Counts → List ℕ → List ℕ
-bodyWords c t = leaves (λ ws. ws) [] (readBody (top c) (kinds c) t)
+-- the lines from the first gate, from the first lamp and from the first latch on
+abbrev pub gatesOn : Counts → List Kind
+gatesOn c = several gate (2 + 2 * c .inputs + 2 * c .latches) (c .gates) []
 
--- A body that nothing refuses, and room for its words
-pub record Fillable (text : List ℕ) (at : ℕ) (c : Counts) (table : List ℕ) : Type 0 where
+abbrev pub lampsOn : Counts → List Kind
+lampsOn c = several (λ own. lamp) 0 (c .lamps) (gatesOn c)
+
+abbrev pub latchesOn : Counts → List Kind
+latchesOn c = several latch (2 + 2 * c .inputs) (c .latches) (lampsOn c)
+
+-- Where the second pass stands: the lines left, the position of the first, the word of the table that is next, and the table
+pub record Stand : Type 0 where
+  pub lines : List Kind
+  pub at : ℕ
+  pub word : ℕ
+  pub table : List ℕ
+
+abbrev pub stand : List Kind → ℕ → ℕ → List ℕ → Stand
+stand ks at p table = record { lines = ks; at = at; word = p; table = table }
+
+-- the words left
+abbrev pub wordsLeft : List ℕ → Counts → Stand → List ℕ
+wordsLeft text c s = bodyWords c (s .lines) (from text (s .at))
+
+-- Nothing refuses the lines left, and there is room for their words
+pub record Fillable (text : List ℕ) (c : Counts) (s : Stand) : Type 0 where
   pub bounded : Bounded c
-  pub within : at ≤ length text
-  pub accepts : readBody (top c) (kinds c) (from text at) ≡ accepted (bodyWords c (from text at))
-  pub room : length (bodyWords c (from text at)) ≤ length table
+  pub within : s .at ≤ length text
+  pub accepts : readBody (top c) (s .lines) (from text (s .at)) ≡ accepted (wordsLeft text c s)
+  pub room : s .word + length (wordsLeft text c s) ≤ length (s .table)
+
+-- The pass has come from s to t: what is left at t makes the table what it becomes from s
+pub record Filled (text : List ℕ) (c : Counts) (s t : Stand) : Type 0 where
+  pub left : Fillable text c t
+  pub long : length (t .table) ≡ length (s .table)
+  pub same : sets (t .table) (t .word) (wordsLeft text c t) ≡ sets (s .table) (s .word) (wordsLeft text c s)

@@ -1,21 +1,31 @@
 // The text of a circuit (document 01, Text).
 use circuit::Counts;
 ghost use mathlib.Core.Path.{_≡_};
-ghost use Prim.Native.Nat.{ℕ, _≤_, _<_, _+_};
+ghost use Prim.Native.Nat.{ℕ, _≤_, _<_, _+_, _*_};
 ghost use lib.ListN.{length, getD};
-ghost use mathlib.Core.List.{[], _∷_, _++_};
+ghost use mathlib.Core.List.{List, [], _∷_, _++_};
+ghost use lib.Seq.{sets};
 ghost use Rattle.three.specs.Lists.{over};
 ghost use Rattle.circuit.specs.Refusal.{refusal};
-ghost use Rattle.circuit.specs.Table.{top, input, latch, lamp, gate, kinds, Bounded, width};
+ghost use Rattle.circuit.specs.Table.{top, input, latch, lamp, gate, several, kinds, Bounded, width};
 ghost use Rattle.text.specs.Decimal.{mayGrow, readNumber, decimal};
 ghost use Rattle.text.specs.Line.{splitLine, lineText};
-ghost use Rattle.text.specs.Text.{words, lineTests, ends, readBody, header as firstLine, countsOf, headerTests, magic, headNumbers, writeText};
+ghost use Rattle.text.specs.Text.{lineTests, ends, readBody, header as firstLine, countsOf, headerTests, magic, headNumbers, writeText};
 ghost use Rattle.text.specs.Calls.{zeros, Reading, Writing};
-ghost use Rattle.text.specs.Reader.{from, leading, NumberFound, FoundInLine, Shape, numbersOf, LineFound, opened, kindOf, lineCount, verdict, answer, LineJudged, TextJudged, pairOf, WordsFit, WordsFilled, bodyWords, Fillable};
+ghost use Rattle.text.specs.Reader.{from, leading, NumberFound, FoundInLine, Shape, numbersOf, LineFound, opened, verdict, answer, LinesJudged, TextJudged, pairOf, WordsFit, bodyWords, stand, latchesOn, lampsOn, gatesOn, Fillable, Filled};
 ghost use Rattle.text.specs.Written.{Put, coded, lineNumbers, countNumbers, Small, Shows, block, Lines, Ready};
 
 // "The file opens with the four bytes `aag` and a space"
 const MAGIC: [u8; 4] = *b"aag ";
+
+// The kinds of line that a text has, in the order of the text.
+const INPUT_LINE: u8 = 0;
+
+const LATCH_LINE: u8 = 1;
+
+const LAMP_LINE: u8 = 2;
+
+const GATE_LINE: u8 = 3;
 
 // ---- the reader
 
@@ -37,14 +47,6 @@ struct ReadLine {
     count: usize,
     numbers: [usize; 5],
     next: usize,
-}
-
-// The line due in a place, with its own literal.
-enum Row {
-    Input(usize),
-    Latch(usize),
-    Lamp,
-    Gate(usize),
 }
 
 // The digit at a position, and 10 where there is none.
@@ -307,50 +309,56 @@ fn gate_refusal(own: usize, most: usize, found: ReadLine) -> u32
     0
 }
 
-// 4, 5, 6, then 7 or 8, for a line; 0 for none. An ill-formed line has no numbers, which is 4.
-fn line_refusal(row: Row, most: usize, found: ReadLine) -> u32
+// 4, 5, 6, then 7 or 8, for a line of a kind with its own literal; 0 for none. An ill-formed line has no numbers, which is 4.
+fn line_refusal(kind: u8, own: usize, most: usize, found: ReadLine) -> u32
     requires { ⌜ Shape found ⌝ }
-    ensures { λ r. ⌜ r ≡ refusal (lineTests most (kindOf row) (numbersOf found)) ⌝ }
+    ensures { λ r. ⌜ r ≡ refusal (lineTests most (coded kind own) (numbersOf found)) ⌝ }
 {
-    match row {
-        Row::Input(own) => input_refusal(own, found),
-        Row::Latch(own) => latch_refusal(own, most, found),
-        Row::Lamp => lamp_refusal(most, found),
-        Row::Gate(own) => gate_refusal(own, most, found),
+    if kind == INPUT_LINE {
+        return input_refusal(own, found);
     }
+    if kind == LATCH_LINE {
+        return latch_refusal(own, most, found);
+    }
+    if kind == LAMP_LINE {
+        return lamp_refusal(most, found);
+    }
+    gate_refusal(own, most, found)
 }
 
-// "Then one line for each input, latch, lamp and gate, in that order": line number i.
-fn due(counts: Counts, i: usize) -> Row
-    requires { ⌜ Bounded counts × (i < lineCount counts) ⌝ }
-    ensures { λ r. ⌜ kindOf r ≡ getD (kinds counts) i lamp ⌝ }
-{
-    if i < counts.inputs {
-        return Row::Input(2 + 2 * i);
-    }
-    if i < counts.inputs + counts.latches {
-        return Row::Latch(2 + 2 * i);
-    }
-    if i < counts.inputs + counts.latches + counts.lamps {
-        return Row::Lamp;
-    }
-    Row::Gate(2 + 2 * (i - counts.lamps))
-}
-
-// A refusal of a line, 0 for none, and the position behind the line.
+// A refusal of lines, 0 for none, and the position behind them.
 struct Judged {
     number: u32,
     next: usize,
 }
 
-fn judge_line(text: &[u8], at: usize, row: Row, most: usize) -> Judged
+fn judge_line(text: &[u8], at: usize, kind: u8, own: usize, most: usize) -> Judged
     requires { ⌜ at ≤ length (now text) ⌝ }
-    ensures { λ r. ⌜ LineJudged (now (text .entry)) at most (kindOf row) r ⌝ }
+    ensures { λ r. ⌜ LinesJudged (now (text .entry)) at most (λ ks. coded kind own ∷ ks) r ⌝ }
 {
     let found = line(text, at, 3);
     Judged {
-        number: line_refusal(row, most, found),
+        number: line_refusal(kind, own, most, found),
         next: found.next,
+    }
+}
+
+// Lines of one kind, the first with the literal `own`.
+fn judge_lines(text: &[u8], at: usize, kind: u8, own: usize, count: usize, most: usize) -> Judged
+    requires { ⌜ (at ≤ length (now text)) × (own + 2 * count ≤ 10000) ⌝ }
+    ensures { λ r. ⌜ LinesJudged (now (text .entry)) at most (several (coded kind) own count) r ⌝ }
+{
+    let mut next = at;
+    for i in 0..count {
+        let judged = judge_line(text, next, kind, own + 2 * i, most);
+        if judged.number != 0 {
+            return judged;
+        }
+        next = judged.next;
+    }
+    Judged {
+        number: 0,
+        next: next,
     }
 }
 
@@ -369,30 +377,31 @@ fn ended(text: &[u8], at: usize) -> bool
     text[at + 1] == 10
 }
 
-fn line_count(counts: Counts) -> usize
-    requires { ⌜ Bounded counts ⌝ }
-    ensures { λ r. ⌜ r ≡ lineCount counts ⌝ }
-{
-    counts.inputs + counts.latches + counts.lamps + counts.gates
-}
-
-// Line by line, and then 9; 0 for no refusal.
+// Line by line, and then 9; 0 for no refusal. "one line for each input, latch, lamp and gate, in that order"
 fn judge_body(text: &[u8], at: usize, counts: Counts) -> u32
     requires { ⌜ Bounded counts × (at ≤ length (now text)) ⌝ }
     ensures { λ r. ⌜ verdict (readBody (top counts) (kinds counts) (from (now (text .entry)) at)) ≡ answer r ⌝ }
 {
+    let latch = 2 + 2 * counts.inputs;
+    let gate = latch + 2 * counts.latches;
     let most = 2 * (counts.inputs + counts.latches + counts.gates) + 1;
-    let lines = line_count(counts);
-    let mut next = at;
-    for i in 0..lines {
-        let row = due(counts, i);
-        let judged = judge_line(text, next, row, most);
-        if judged.number != 0 {
-            return judged.number;
-        }
-        next = judged.next;
+    let inputs = judge_lines(text, at, INPUT_LINE, 2, counts.inputs, most);
+    if inputs.number != 0 {
+        return inputs.number;
     }
-    if !ended(text, next) {
+    let latches = judge_lines(text, inputs.next, LATCH_LINE, latch, counts.latches, most);
+    if latches.number != 0 {
+        return latches.number;
+    }
+    let lamps = judge_lines(text, latches.next, LAMP_LINE, 0, counts.lamps, most);
+    if lamps.number != 0 {
+        return lamps.number;
+    }
+    let gates = judge_lines(text, lamps.next, GATE_LINE, gate, counts.gates, most);
+    if gates.number != 0 {
+        return gates.number;
+    }
+    if !ended(text, gates.next) {
         return 9;
     }
     0
@@ -434,46 +443,81 @@ fn judge(text: &[u8]) -> Judgement
     }
 }
 
-// The second and the third number of a line, stored from word p on; the place behind them.
-fn fill_pair(found: ReadLine, table: &mut [u16], p: usize) -> usize
+// The second and the third number of a line, stored from word p on.
+fn fill_pair(found: ReadLine, table: &mut [u16], p: usize)
     requires { ⌜ WordsFit (pairOf (numbersOf found)) p (now table) ⌝ }
-    ensures { λ r. ⌜ WordsFilled (pairOf (numbersOf found)) p (now (table .entry)) r (now (table .exit)) ⌝ }
+    ensures { λ _. ⌜ now (table .exit) ≡ sets (now (table .entry)) p (pairOf (numbersOf found)) ⌝ }
 {
     table[p] = entry(found, 1) as u16;
     table[p + 1] = entry(found, 2) as u16;
-    p + 2
 }
 
-// The words of a line, stored from word p on; the place behind them.
-fn fill_line(row: Row, found: ReadLine, table: &mut [u16], p: usize) -> usize
-    requires { ⌜ WordsFit (words (kindOf row) (numbersOf found)) p (now table) ⌝ }
-    ensures { λ r. ⌜ WordsFilled (words (kindOf row) (numbersOf found)) p (now (table .entry)) r (now (table .exit)) ⌝ }
+// The lines of the inputs have no words; the position behind them.
+fn skip_inputs(text: &[u8], at: usize, counts: Counts) -> usize
+    requires { ⌜ at ≤ length (now text) ⌝ }
+    ensures { λ r. ⌜ ((table : List ℕ) → Fillable (now (text .entry)) counts (stand (kinds counts) at 0 table) → Filled (now (text .entry)) counts (stand (kinds counts) at 0 table) (stand (latchesOn counts) r 0 table)) ⌝ }
 {
-    match row {
-        Row::Input(_) => p,
-        Row::Latch(_) => fill_pair(found, table, p),
-        Row::Lamp => {
-            table[p] = entry(found, 0) as u16;
-            p + 1
-        }
-        Row::Gate(_) => fill_pair(found, table, p),
+    let mut next = at;
+    for i in 0..counts.inputs {
+        let found = line(text, next, 3);
+        next = found.next;
     }
+    next
+}
+
+// "for each latch its next literal and its reset"; the position behind the lines.
+fn fill_latches(text: &[u8], at: usize, counts: Counts, table: &mut [u16]) -> usize
+    requires { ⌜ Fillable (now text) counts (stand (latchesOn counts) at 0 (now table)) ⌝ }
+    ensures { λ r. ⌜ Filled (now (text .entry)) counts (stand (latchesOn counts) at 0 (now (table .entry))) (stand (lampsOn counts) r (2 * counts .latches) (now (table .exit))) ⌝ }
+{
+    let mut next = at;
+    for i in 0..counts.latches {
+        let found = line(text, next, 3);
+        fill_pair(found, table, 2 * i);
+        next = found.next;
+    }
+    next
+}
+
+// "then the lamp literals"; the position behind the lines.
+fn fill_lamps(text: &[u8], at: usize, counts: Counts, table: &mut [u16]) -> usize
+    requires { ⌜ Fillable (now text) counts (stand (lampsOn counts) at (2 * counts .latches) (now table)) ⌝ }
+    ensures { λ r. ⌜ Filled (now (text .entry)) counts (stand (lampsOn counts) at (2 * counts .latches) (now (table .entry))) (stand (gatesOn counts) r (2 * counts .latches + counts .lamps) (now (table .exit))) ⌝ }
+{
+    let first = 2 * counts.latches;
+    let mut next = at;
+    for i in 0..counts.lamps {
+        let found = line(text, next, 3);
+        table[first + i] = entry(found, 0) as u16;
+        next = found.next;
+    }
+    next
+}
+
+// "then two operands a gate"; the position behind the lines.
+fn fill_gates(text: &[u8], at: usize, counts: Counts, table: &mut [u16]) -> usize
+    requires { ⌜ Fillable (now text) counts (stand (gatesOn counts) at (2 * counts .latches + counts .lamps) (now table)) ⌝ }
+    ensures { λ r. ⌜ Filled (now (text .entry)) counts (stand (gatesOn counts) at (2 * counts .latches + counts .lamps) (now (table .entry))) (stand [] r (2 * counts .latches + counts .lamps + 2 * counts .gates) (now (table .exit))) ⌝ }
+{
+    let first = 2 * counts.latches + counts.lamps;
+    let mut next = at;
+    for i in 0..counts.gates {
+        let found = line(text, next, 3);
+        fill_pair(found, table, first + 2 * i);
+        next = found.next;
+    }
+    next
 }
 
 // The words of a body that nothing refuses, into the front of the table.
 fn fill(text: &[u8], at: usize, counts: Counts, table: &mut [u16])
-    requires { ⌜ Fillable (now text) at counts (now table) ⌝ }
-    ensures { λ _. ⌜ now (table .exit) ≡ over (bodyWords counts (from (now (text .entry)) at)) (now (table .entry)) ⌝ }
+    requires { ⌜ Fillable (now text) counts (stand (kinds counts) at 0 (now table)) ⌝ }
+    ensures { λ _. ⌜ now (table .exit) ≡ over (bodyWords counts (kinds counts) (from (now (text .entry)) at)) (now (table .entry)) ⌝ }
 {
-    let lines = line_count(counts);
-    let mut next = at;
-    let mut p = 0;
-    for i in 0..lines {
-        let row = due(counts, i);
-        let found = line(text, next, 3);
-        p = fill_line(row, found, table, p);
-        next = found.next;
-    }
+    let latches = skip_inputs(text, at, counts);
+    let lamps = fill_latches(text, latches, counts, table);
+    let gates = fill_lamps(text, lamps, counts, table);
+    fill_gates(text, gates, counts, table);
 }
 
 // The answer of the reader: the number of a refusal, or 0 with I, L, O and A.
@@ -518,15 +562,6 @@ pub fn read(text: &[u8], table: &mut [u16]) -> ReadAnswer
 
 // ---- the writer: every `put` answers the position behind the bytes that it writes
 
-// The kinds of line that a text has, in the order of the text.
-const INPUT_LINE: u8 = 0;
-
-const LATCH_LINE: u8 = 1;
-
-const LAMP_LINE: u8 = 2;
-
-const GATE_LINE: u8 = 3;
-
 fn put_byte(text: &mut [u8], at: usize, byte: u8) -> usize
     requires { ⌜ at < length (now text) ⌝ }
     ensures { λ r. ⌜ Put (now (text .entry)) at (byte ∷ []) (now (text .exit)) r ⌝ }
@@ -547,24 +582,75 @@ fn put_magic(text: &mut [u8]) -> usize
     4
 }
 
-// The byte of one digit.
-fn digit(n: usize) -> u8
-    requires { ⌜ n < 10 ⌝ }
-    ensures { λ r. ⌜ r ≡ 48 + n ⌝ }
+fn put_digit(text: &mut [u8], at: usize, d: usize) -> usize
+    requires { ⌜ (d < 10) × (at < length (now text)) ⌝ }
+    ensures { λ r. ⌜ Put (now (text .entry)) at ((48 + d) ∷ []) (now (text .exit)) r ⌝ }
 {
-    48 + n as u8
+    put_byte(text, at, 48 + d as u8)
 }
 
-// The most significant digit first, and "no leading zero except `0` itself".
+// A number of one digit, and below of two, three and four; the most significant digit comes first.
+fn put_one(text: &mut [u8], at: usize, n: usize) -> usize
+    requires { ⌜ (n < 10) × (at + length (decimal n) ≤ length (now text)) ⌝ }
+    ensures { λ r. ⌜ Put (now (text .entry)) at (decimal n) (now (text .exit)) r ⌝ }
+{
+    put_digit(text, at, n)
+}
+
+fn put_two(text: &mut [u8], at: usize, n: usize) -> usize
+    requires { ⌜ (10 ≤ n) × (n < 100) × (at + length (decimal n) ≤ length (now text)) ⌝ }
+    ensures { λ r. ⌜ Put (now (text .entry)) at (decimal n) (now (text .exit)) r ⌝ }
+{
+    let last = put_one(text, at, n / 10);
+    put_digit(text, last, n % 10)
+}
+
+fn put_three(text: &mut [u8], at: usize, n: usize) -> usize
+    requires { ⌜ (100 ≤ n) × (n < 1000) × (at + length (decimal n) ≤ length (now text)) ⌝ }
+    ensures { λ r. ⌜ Put (now (text .entry)) at (decimal n) (now (text .exit)) r ⌝ }
+{
+    let last = put_two(text, at, n / 10);
+    put_digit(text, last, n % 10)
+}
+
+fn put_four(text: &mut [u8], at: usize, n: usize) -> usize
+    requires { ⌜ (1000 ≤ n) × (n < 10000) × (at + length (decimal n) ≤ length (now text)) ⌝ }
+    ensures { λ r. ⌜ Put (now (text .entry)) at (decimal n) (now (text .exit)) r ⌝ }
+{
+    let last = put_three(text, at, n / 10);
+    put_digit(text, last, n % 10)
+}
+
+// A number of any length, by a call for each digit.
+fn put_long(text: &mut [u8], at: usize, n: usize) -> usize
+    requires { ⌜ at + length (decimal n) ≤ length (now text) ⌝ }
+    ensures { λ r. ⌜ Put (now (text .entry)) at (decimal n) (now (text .exit)) r ⌝ }
+{
+    if n < 10 {
+        return put_one(text, at, n);
+    }
+    let last = put_long(text, at, n / 10);
+    put_digit(text, last, n % 10)
+}
+
+// "no leading zero except `0` itself". A text's numbers have at most four digits: they are put without a call for each digit.
 pub fn put_number(text: &mut [u8], at: usize, n: usize) -> usize
     requires { ⌜ at + length (decimal n) ≤ length (now text) ⌝ }
     ensures { λ r. ⌜ Put (now (text .entry)) at (decimal n) (now (text .exit)) r ⌝ }
 {
     if n < 10 {
-        return put_byte(text, at, digit(n));
+        return put_one(text, at, n);
     }
-    let last = put_number(text, at, n / 10);
-    put_byte(text, last, digit(n % 10))
+    if n < 100 {
+        return put_two(text, at, n);
+    }
+    if n < 1000 {
+        return put_three(text, at, n);
+    }
+    if n < 10000 {
+        return put_four(text, at, n);
+    }
+    put_long(text, at, n)
 }
 
 // A number and the byte behind it.

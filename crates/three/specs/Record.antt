@@ -57,6 +57,10 @@ knownPairs (suc p ∷ ps) = suc (knownPairs ps)
 unfoldable pub judged : ℕ → ℕ
 judged byte = cond (bad (pairs byte)) 255 (knownPairs (pairs byte))
 
+-- what each of the 256 bytes is judged to be
+unfoldable pub knownTable : List ℕ
+knownTable = tabulate 256 judged
+
 -- the leftover bits of a record of f fields: the low bits of its last byte
 unfoldable pub leftover : ℕ → List ℕ → ℕ
 leftover f bytes = getD bytes (bytesFor f - 1) 0 % 4 ^ (4 * bytesFor f - f)

@@ -1,6 +1,8 @@
 -- The values 0, 1 and X (document 01, Tick), and the two logics that a circuit is read in. Assumes nothing.
 use mathlib.Core.Bool.{Bool, true, false, not, _&&_}
+use mathlib.Core.List.{List}
 use Prim.Native.Nat.{ℕ, zero, suc}
+use Rattle.three.specs.Lists.{tabulate}
 
 -- X, 0 and 1
 pub data Three : Type 0 where
@@ -32,6 +34,10 @@ both high unknown = unknown
 both unknown low = low
 both unknown high = unknown
 both unknown unknown = unknown
+
+-- the gate rule as a three by three table of answers, all in their two bits
+unfoldable pub gateTable : List (List ℕ)
+gateTable = tabulate 3 (λ a. tabulate 3 (λ b. code (both (decode a) (decode b))))
 
 -- inverting swaps 0 and 1 and keeps X
 unfoldable pub inverse : Three → Three

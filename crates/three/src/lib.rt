@@ -3,28 +3,25 @@ ghost use mathlib.Core.Path.{_≡_};
 ghost use Prim.Native.Nat.{_*_, _<_, _≤_};
 ghost use lib.ListN.{length};
 ghost use Rattle.three.specs.Lists.{over};
-ghost use Rattle.three.specs.Value.{code, decode, both, inverse};
+ghost use Rattle.three.specs.Value.{code, decode, both, gateTable};
 ghost use Rattle.three.specs.Cube.{merged, knownFields};
-ghost use Rattle.three.specs.Record.{bytesFor, byteOf, pack, pairAt, unpack, judged, sound as soundRecord, IsRecord};
+ghost use Rattle.three.specs.Record.{bytesFor, byteOf, pack, pairAt, unpack, judged, knownTable, sound as soundRecord, IsRecord};
 
 // "0 with anything is 0, 1 with 1 is 1, the rest X"
 const AND: [[u8; 3]; 3] = [[0, 1, 0], [1, 1, 1], [0, 1, 2]];
 
-pub fn and3(a: u8, b: u8) -> u8
-    requires { ⌜ (a < 3) × (b < 3) ⌝ }
-    ensures { λ r. ⌜ r ≡ code (both (decode a) (decode b)) ⌝ }
+// Every mention of a constant table makes it anew: a pass makes this one once, and lends it to each gate.
+pub fn gate_table() -> [[u8; 3]; 3]
+    ensures { λ r. ⌜ r ≡ gateTable ⌝ }
 {
-    AND[a as usize][b as usize]
+    AND
 }
 
-pub fn inverted(v: u8) -> u8
-    requires { ⌜ v < 3 ⌝ }
-    ensures { λ r. ⌜ r ≡ code (inverse (decode v)) ⌝ }
+pub fn and3(answers: &[[u8; 3]; 3], a: u8, b: u8) -> u8
+    requires { ⌜ (now answers ≡ gateTable) × (a < 3) × (b < 3) ⌝ }
+    ensures { λ r. ⌜ r ≡ code (both (decode a) (decode b)) ⌝ }
 {
-    if v == 0 {
-        return 0;
-    }
-    3 - v
+    answers[a as usize][b as usize]
 }
 
 // "the count of its known fields, or 255 where some pair is 11"
@@ -289,10 +286,18 @@ const KNOWN: [u8; 256] = [
 
 const BAD: u8 = 255;
 
-pub fn known(byte: u8) -> u8
+// As the gate table, made once and lent to each byte that is judged.
+pub fn known_table() -> [u8; 256]
+    ensures { λ r. ⌜ r ≡ knownTable ⌝ }
+{
+    KNOWN
+}
+
+fn known(counts: &[u8; 256], byte: u8) -> u8
+    requires { ⌜ now counts ≡ knownTable ⌝ }
     ensures { λ r. ⌜ r ≡ judged byte ⌝ }
 {
-    KNOWN[byte as usize]
+    counts[byte as usize]
 }
 
 // "A record of f fields takes f / 4 bytes rounded up, and at least one."
@@ -305,22 +310,20 @@ pub fn record_length(fields: usize) -> usize
     (fields - 1) / 4 + 1
 }
 
-// What the leftover fields of a byte count up to, by their number.
-const LEFTOVER: [usize; 5] = [1, 4, 16, 64, 256];
-
 // A given record has no pair 11 and no leftover bit set.
-pub fn sound(bytes: &[u8], fields: usize) -> bool
-    requires { ⌜ (fields ≤ 4096) × (bytesFor fields ≤ length (now bytes)) ⌝ }
+pub fn sound(counts: &[u8; 256], bytes: &[u8], fields: usize) -> bool
+    requires { ⌜ (now counts ≡ knownTable) × (fields ≤ 4096) × (bytesFor fields ≤ length (now bytes)) ⌝ }
     ensures { λ r. ⌜ r ≡ soundRecord fields (now (bytes .entry)) ⌝ }
 {
     let len = record_length(fields);
     for k in 0..len {
-        if known(bytes[k]) == BAD {
+        if known(counts, bytes[k]) == BAD {
             return false;
         }
     }
+    // The leftover fields are the low bits of the last byte.
     let last = bytes[len - 1] as usize;
-    last % LEFTOVER[4 * len - fields] == 0
+    last % (1 << (2 * (4 * len - fields))) == 0
 }
 
 // Field number i of a record.
@@ -344,9 +347,10 @@ pub fn known_fields(bytes: &[u8], fields: usize) -> usize
     requires { ⌜ (fields ≤ 4096) × IsRecord fields (now bytes) ⌝ }
     ensures { λ r. ⌜ r ≡ knownFields (unpack fields (now (bytes .entry))) ⌝ }
 {
+    let counts = known_table();
     let mut count: usize = 0;
     for k in 0..record_length(fields) {
-        count += known(bytes[k]) as usize;
+        count += known(&counts, bytes[k]) as usize;
     }
     count
 }

@@ -1,8 +1,7 @@
--- `circuit::gate` meets its contract: the AND table is looked up at the operands' values. Assumes nothing.
+-- `circuit::gate` meets its contract: the gate table is looked up at the operands' values. Assumes nothing.
 use mathlib.Core.Path.{ap₂, _∙_}
 use Rattle.three.specs.Value.{code, both}
 use Rattle.three.proofs.Filling.{is-small, is-decoded}
-use native.Mathlib.Omega.{arith}
 use borrow.Author.Needs.{needs}
 use Rattle.circuit.proofs.gate.Statement.{statement}
 use Rattle.circuit.proofs.gate.Tie as tie
@@ -14,7 +13,7 @@ literal-requires-2 : tie.Need-literal-requires-2
 literal-requires-2 c κs = search needs
 
 and3-requires : tie.Need-and3-requires
-and3-requires c κs = (is-small _ (c .before .literal .ensures), is-small _ (c .literal2 .ensures))
+and3-requires c κs = (c .before .before .pre .0, is-small _ (c .before .literal .ensures), is-small _ (c .literal2 .ensures))
 
 returns : tie.Need-returns
 returns c = c .and3 .ensures ∙ ap₂ (λ x y. code (both x y)) (is-decoded _ (c .before .before .literal .ensures)) (is-decoded _ (c .before .literal2 .ensures))

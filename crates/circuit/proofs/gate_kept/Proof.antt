@@ -1,6 +1,5 @@
 -- `circuit::gate_kept` meets its contract: its two tests are rule 7. Assumes nothing.
 use Prim.Native.Nat.{_+_}
-use mathlib.Core.Path.{sym}
 use borrow.Author.Tests.{le-ltb, lt-ltb}
 use Rattle.circuit.specs.Table.{gateKept}
 use Rattle.circuit.proofs.Rules.{and-fails, and-holds}

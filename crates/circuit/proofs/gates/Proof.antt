@@ -8,13 +8,19 @@ use Rattle.circuit.proofs.gates.Statement.{statement}
 use Rattle.circuit.proofs.gates.Tie as tie
 
 abbrev Inv-loop : tie.InvT-loop
-Inv-loop table at first count values₀ i₀ values i = Working values × Turn table at first count (valuesOf values₀) (valuesOf values) i
+Inv-loop table at first count values₀ answers signs i₀ values i = Working values × Turn table at first count (valuesOf values₀) (valuesOf values) i
 
 abbrev μ-loop : tie.MeasureT-loop
-μ-loop table at first count values₀ i₀ values i = count - i
+μ-loop table at first count values₀ answers signs i₀ values i = count - i
+
+gate-table-requires : tie.Need-gate-table-requires Inv-loop μ-loop
+gate-table-requires c κs = tt
+
+sign-table-requires : tie.Need-sign-table-requires Inv-loop μ-loop
+sign-table-requires c κs = tt
 
 loop-holds : tie.Need-loop-holds Inv-loop μ-loop
-loop-holds c = (c .before .pre .1, turn-first _ _ _ _ _)
+loop-holds c = (c .before .before .before .pre .1, turn-first _ _ _ _ _)
 
 mul-p : tie.Need-mul-p Inv-loop μ-loop
 mul-p c = omega arith
@@ -39,17 +45,18 @@ shared-slice-read-gate-2 c = omega arith
 
 gate-requires : tie.Need-gate-requires Inv-loop μ-loop
 gate-requires c κs =
-    let turn = c .before .before .before in
-    let g = turn .before .before .before .pre .0 in
+    let turn = c .before .before .before .before .before in
+    let made = turn .before .before in
+    let g = made .before .before .before .pre .0 in
     let t = turn .loop-test .taken in
-    (omega (arith, g .left _ t), omega (arith, g .right _ t), turn .before .loop .inv .0)
+    (made .before .gate-table .ensures, made .sign-table .ensures, omega (arith, g .left _ t), omega (arith, g .right _ t), turn .before .loop .inv .0)
 
 add-put-variable : tie.Need-add-put-variable Inv-loop μ-loop
 add-put-variable c = omega arith
 
 put-variable-requires : tie.Need-put-variable-requires Inv-loop μ-loop
 put-variable-requires c κs =
-    let turn = c .before .before .before .before .before in
+    let turn = c .before .before .before .before .before .before .before in
     (omega arith, is-small _ (c .before .gate .ensures), turn .before .loop .inv .0)
 
 add-i : tie.Need-add-i Inv-loop μ-loop
@@ -60,14 +67,14 @@ loop-less c = omega arith
 
 loop-again : tie.Need-loop-again Inv-loop μ-loop
 loop-again c =
-    let turn = c .before .before .before .before .before .before in
-    let pre = turn .before .before .before .pre in
+    let turn = c .before .before .before .before .before .before .before .before in
+    let pre = turn .before .before .before .before .before .pre in
     let put = c .put-variable .ensures in
     (put .working, rw (put .same) (turn-next _ _ _ _ _ (pre .0) (room _ _ _ _ _ (pre .0) (pre .1)) _ _ _ (turn .before .loop .inv .1) (turn .loop-test .taken) (is-decoded _ (c .before .before .gate .ensures))))
 
 returns : tie.Need-returns Inv-loop μ-loop
 returns c =
-    let pre = c .before .before .before .pre in
+    let pre = c .before .before .before .before .before .pre in
     let done = c .before .loop .inv in
     record { working = done .0; same = turn-last _ _ _ _ _ (pre .0) (room _ _ _ _ _ (pre .0) (pre .1)) _ _ (done .1) (c .loop-test .left) }
 
@@ -77,6 +84,8 @@ gates-spec =
     (tie.spec
     Inv-loop
     μ-loop
+    gate-table-requires
+    sign-table-requires
     loop-holds
     mul-p
     add-p

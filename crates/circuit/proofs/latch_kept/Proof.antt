@@ -1,5 +1,4 @@
 -- `circuit::latch_kept` meets its contract: its two tests are rules 6 and 8. Assumes nothing.
-use mathlib.Core.Path.{sym}
 use borrow.Author.Tests.{lt-leb, le-leb}
 use Rattle.circuit.specs.Table.{latchKept}
 use Rattle.circuit.proofs.Rules.{and-fails, and-holds}

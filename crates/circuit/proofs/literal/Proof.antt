@@ -1,9 +1,6 @@
--- `circuit::literal` meets its contract: its variable's value, inverted where the literal is odd. Assumes nothing.
-use mathlib.Core.Path.{ap, _∙_}
-use Rattle.three.specs.Value.{code, inverse}
-use Rattle.three.proofs.Filling.{is-small, is-decoded}
-use Rattle.circuit.proofs.Values.{value-even, value-odd}
-use native.Mathlib.Omega.{arith}
+-- `circuit::literal` meets its contract: its variable's value is looked up in the table of signs. Assumes nothing.
+use Rattle.three.proofs.Filling.{is-small}
+use Rattle.circuit.proofs.Values.{value-signed}
 use borrow.Author.Needs.{needs}
 use Rattle.circuit.proofs.literal.Statement.{statement}
 use Rattle.circuit.proofs.literal.Tie as tie
@@ -14,15 +11,33 @@ cast-variable c = search needs
 variable-requires : tie.Need-variable-requires
 variable-requires c κs = search needs
 
+cast-result : tie.Need-cast-result
+cast-result c = search needs
+
+cast-result-2 : tie.Need-cast-result-2
+cast-result-2 c = search needs
+
+mul-result : tie.Need-mul-result
+mul-result c = search needs
+
+index-1-result : tie.Need-index-1-result
+index-1-result c = search needs
+
+index-2-result : tie.Need-index-2-result
+index-2-result c = is-small _ (c .variable .ensures)
+
 returns : tie.Need-returns
-returns c = c .before .variable .ensures ∙ ap code (value-even _ _ (c .if1 .taken))
-
-inverted-requires : tie.Need-inverted-requires
-inverted-requires c κs = is-small _ (c .before .variable .ensures)
-
-returns-2 : tie.Need-returns-2
-returns-2 c = c .inverted .ensures ∙ ap code (ap inverse (is-decoded _ (c .before .before .variable .ensures)) ∙ value-odd _ _ (c .before .if1 .left))
+returns c = rw (c .before .before .pre .0, c .before .variable .ensures) (value-signed _ _)
 
 pub literal-spec : {M : Type 1} → statement M
 literal-spec =
-    tie.close (tie.spec cast-variable variable-requires returns inverted-requires returns-2)
+    tie.close
+    (tie.spec
+    cast-variable
+    variable-requires
+    cast-result
+    cast-result-2
+    mul-result
+    index-1-result
+    index-2-result
+    returns)

@@ -19,6 +19,9 @@ record-length-requires-2 c κs = search needs
 returns-2 : tie.Need-returns-2
 returns-2 c = switches-short _ _ _ (omega arith) (omega arith)
 
+known-table-requires : tie.Need-known-table-requires
+known-table-requires c κs = search needs
+
 sound-requires : tie.Need-sound-requires
 sound-requires c κs = search needs
 
@@ -29,10 +32,10 @@ sound-requires-2 : tie.Need-sound-requires-2
 sound-requires-2 c κs = search needs
 
 returns-4 : tie.Need-returns-4
-returns-4 c = switches-bad _ _ _ (omega arith) (omega arith) (sym (c .before .before .before .sound .ensures) ∙ not-false _ (c .before .before .if3 .left)) (sym (c .before .sound2 .ensures) ∙ not-true _ (c .if4 .taken))
+returns-4 c = switches-bad _ _ _ (omega arith) (omega arith) (sym (c .before .before .before .before .sound .ensures) ∙ not-false _ (c .before .before .before .if3 .left)) (sym (c .before .sound2 .ensures) ∙ not-true _ (c .if4 .taken))
 
 returns-5 : tie.Need-returns-5
-returns-5 c = records-pass _ _ _ (omega arith) (omega arith) (sym (c .before .before .before .sound .ensures) ∙ not-false _ (c .before .before .if3 .left)) (sym (c .before .sound2 .ensures) ∙ not-false _ (c .if4 .left))
+returns-5 c = records-pass _ _ _ (omega arith) (omega arith) (sym (c .before .before .before .before .sound .ensures) ∙ not-false _ (c .before .before .before .if3 .left)) (sym (c .before .sound2 .ensures) ∙ not-false _ (c .if4 .left))
 
 pub record-refusal-spec : {M : Type 1} → statement M
 record-refusal-spec =
@@ -42,6 +45,7 @@ record-refusal-spec =
     returns
     record-length-requires-2
     returns-2
+    known-table-requires
     sound-requires
     returns-3
     sound-requires-2

@@ -1,7 +1,6 @@
 -- `circuit::settle_state` meets its contract: the state is loaded, and the gates are taken behind it. Assumes nothing.
 use Rattle.three.proofs.Pack.{length-unpack}
 use Rattle.circuit.proofs.Settling.{legal-gates, state-begins}
-use native.Mathlib.Omega.{arith}
 use borrow.Author.Needs.{needs}
 use Rattle.circuit.proofs.settle_state.Statement.{statement}
 use Rattle.circuit.proofs.settle_state.Tie as tie

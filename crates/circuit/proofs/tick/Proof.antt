@@ -1,7 +1,6 @@
 -- `circuit::tick` meets its contract: it answers the first refusal and leaves everything, or does the work. Assumes nothing.
 use mathlib.Core.Path.{sym, _∙_}
 use Rattle.circuit.proofs.Ticking.{accepted-tick, tick-refused, tick-done}
-use native.Mathlib.Omega.{arith}
 use borrow.Author.Needs.{needs}
 use Rattle.circuit.proofs.tick.Statement.{statement}
 use Rattle.circuit.proofs.tick.Tie as tie

@@ -2,7 +2,6 @@
 use mathlib.Core.Path.{refl}
 use Rattle.run.specs.Bytes.{differingByte}
 use Rattle.run.proofs.Keeping.{differing-small}
-use native.Mathlib.Omega.{arith}
 use Rattle.run.proofs.differing.Statement.{statement}
 use Rattle.run.proofs.differing.Tie as tie
 

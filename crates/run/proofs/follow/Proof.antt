@@ -1,7 +1,6 @@
 -- `run::follow` meets its contract: each turn stores a cube more, or closes the run, or finds no room. Assumes nothing.
-use mathlib.Core.Path.{refl, sym, _∙_}
+use mathlib.Core.Path.{refl, sym}
 use Prim.Native.Nat.{_-_}
-use lib.ListN.{length}
 use Rattle.circuit.proofs.Settling.{fresh}
 use Rattle.run.proofs.Reaching.{fresh-ready}
 use Rattle.run.specs.Call.{Followable}

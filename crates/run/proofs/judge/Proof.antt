@@ -1,5 +1,4 @@
 -- `run::judge` meets its contract: the lamps, then the latches, and the count of those. Assumes nothing.
-use mathlib.Core.Path.{sym, ap, _∙_}
 use Rattle.run.proofs.Judging.{judgeable-len, settleable, settled-record-of, settled-known}
 use native.Mathlib.Omega.{arith}
 use borrow.Author.Needs.{needs}

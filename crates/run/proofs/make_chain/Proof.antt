@@ -1,8 +1,6 @@
 -- `run::make_chain` meets its contract: cube 0 is stored, and followed. Assumes nothing.
 use mathlib.Core.Path.{refl}
 use Rattle.run.proofs.Following.{start-followable, chained-from}
-use mathlib.Core.Path.{sym, _∙_}
-use native.Mathlib.Omega.{arith}
 use borrow.Author.Needs.{needs}
 use Rattle.run.proofs.make_chain.Statement.{statement}
 use Rattle.run.proofs.make_chain.Tie as tie

@@ -1,6 +1,5 @@
 -- `run::start_byte` meets its contract: its four fields are read, and packed. Assumes nothing.
 use Rattle.three.proofs.Filling.{is-small, four-fields}
-use native.Mathlib.Omega.{arith}
 use borrow.Author.Needs.{needs}
 use Rattle.run.proofs.start_byte.Statement.{statement}
 use Rattle.run.proofs.start_byte.Tie as tie

@@ -1,5 +1,4 @@
 -- `run::widen` meets its contract: the bytes are widened in turn. Assumes nothing.
-use mathlib.Core.Path.{refl}
 use Prim.Native.Nat.{_-_}
 use lib.ListN.{drop}
 use Rattle.three.proofs.Lists.{Stored, stored-first, stored-last}

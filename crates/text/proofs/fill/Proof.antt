@@ -1,59 +1,44 @@
--- `text::fill` meets its contract: each line is stored in turn, as `Filled` says. Assumes nothing.
-use Prim.Native.Nat.{_-_}
-use Rattle.text.proofs.Filling.{Filled, filled-first, filled-long, filled-fits, filled-next, filled-last}
-use native.Mathlib.Omega.{arith}
+-- `text::fill` meets its contract: the lines of each kind in turn, and when none is left the table is the whole. Assumes nothing.
+use Rattle.text.proofs.Filling.{filled-then, filled-whole}
+use borrow.Author.Needs.{needs}
 use Rattle.text.proofs.fill.Statement.{statement}
 use Rattle.text.proofs.fill.Tie as tie
 
-abbrev Inv-loop : tie.InvT-loop
-Inv-loop text at counts table₀ lines next₀ p₀ i₀ table next p i = Filled text at counts table₀ table next p i
+skip-inputs-requires : tie.Need-skip-inputs-requires
+skip-inputs-requires c κs = search needs
 
-abbrev μ-loop : tie.MeasureT-loop
-μ-loop text at counts table₀ lines next₀ p₀ i₀ table next p i = lines - i
+fill-latches-requires : tie.Need-fill-latches-requires
+fill-latches-requires c κs =
+    let inputs = c .before in
+    let start = inputs .before .before .before in
+    inputs .skip-inputs .ensures _ (start .pre) .left
 
-line-count-requires : tie.Need-line-count-requires Inv-loop μ-loop
-line-count-requires c κs = omega arith
+fill-lamps-requires : tie.Need-fill-lamps-requires
+fill-lamps-requires c κs = search needs
 
-loop-holds : tie.Need-loop-holds Inv-loop μ-loop
-loop-holds c = filled-first _ _ _ _ (c .before .before .before .pre)
+fill-gates-requires : tie.Need-fill-gates-requires
+fill-gates-requires c κs = search needs
 
-due-requires : tie.Need-due-requires Inv-loop μ-loop
-due-requires c κs = omega arith
+same-length : tie.Need-same-length
+same-length c = search needs
 
-line-requires : tie.Need-line-requires Inv-loop μ-loop
-line-requires c κs = omega arith
-
-fill-line-requires : tie.Need-fill-line-requires Inv-loop μ-loop
-fill-line-requires c κs = filled-fits _ _ _ _ (c .before .before .before .before .before .before .before .before .pre) (c .before .before .before .before .loop .inv) (omega arith) (c .before .before .due .ensures) (c .before .line .ensures)
-
-add-i : tie.Need-add-i Inv-loop μ-loop
-add-i c = omega arith
-
-loop-less : tie.Need-loop-less Inv-loop μ-loop
-loop-less c = omega arith
-
-loop-again : tie.Need-loop-again Inv-loop μ-loop
-loop-again c = filled-next _ _ _ _ (c .before .before .before .before .before .before .before .before .before .before .before .pre) (c .before .before .before .before .before .before .before .loop .inv) (omega arith) (c .before .before .before .before .before .due .ensures) (c .before .before .before .before .line .ensures) (c .before .before .fill-line .ensures)
-
-same-length : tie.Need-same-length Inv-loop μ-loop
-same-length c = filled-long _ _ _ _ (c .before .before .before .before .before .pre) (c .before .loop .inv)
-
-returns : tie.Need-returns Inv-loop μ-loop
-returns c = filled-last _ _ _ _ (c .before .before .before .before .before .pre) (c .before .loop .inv) (omega arith)
+returns : tie.Need-returns
+returns c =
+    let gates = c .before .before in
+    let lamps = gates .before .before .before .before in
+    let latches = lamps .before .before .before .before in
+    let inputs = latches .before .before in
+    let start = inputs .before .before .before in
+    let front = filled-then (inputs .skip-inputs .ensures _ (start .pre)) (latches .fill-latches .ensures) in
+    filled-whole (start .pre) (filled-then (filled-then front (lamps .fill-lamps .ensures)) (gates .fill-gates .ensures))
 
 pub fill-spec : {M : Type 1} → statement M
 fill-spec =
     tie.close
     (tie.spec
-    Inv-loop
-    μ-loop
-    line-count-requires
-    loop-holds
-    due-requires
-    line-requires
-    fill-line-requires
-    add-i
-    loop-less
-    loop-again
+    skip-inputs-requires
+    fill-latches-requires
+    fill-lamps-requires
+    fill-gates-requires
     same-length
     returns)

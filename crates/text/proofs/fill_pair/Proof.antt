@@ -1,5 +1,4 @@
 -- `text::fill_pair` meets its contract: the two words are stored one after the other. Assumes nothing.
-use mathlib.Core.Path.{refl}
 use native.Mathlib.Numerals.{add-one}
 use lib.ListN.{length-set}
 use native.Mathlib.Omega.{arith}
@@ -34,14 +33,11 @@ mul-table-2 c = search needs
 slice-write-table-2 : tie.Need-slice-write-table-2
 slice-write-table-2 c = simp length-set (omega arith)
 
-add-result : tie.Need-add-result
-add-result c = search needs
-
 same-length : tie.Need-same-length
 same-length c = search needs
 
 returns : tie.Need-returns
-returns c = record { same = rw (c .entry2 .ensures, c .before .entry .ensures, add-one); place = refl }
+returns c = rw (c .entry2 .ensures, c .before .entry .ensures, add-one)
 
 pub fill-pair-spec : {M : Type 1} → statement M
 fill-pair-spec =
@@ -56,6 +52,5 @@ fill-pair-spec =
     add-table
     mul-table-2
     slice-write-table-2
-    add-result
     same-length
     returns)

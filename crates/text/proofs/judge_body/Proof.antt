@@ -1,80 +1,112 @@
--- `text::judge_body` meets its contract: each line is judged in turn, as `Turns` says. Assumes nothing.
-use Prim.Native.Nat.{_-_}
-use borrow.Author.Tests.{not-true, not-false}
-use Rattle.text.proofs.Bodies.{Turns, turns-first, turns-next, turns-stop, turns-over, turns-last}
+-- `text::judge_body` meets its contract: the lines of each kind in turn, and then the end of the text. Assumes nothing.
 use native.Mathlib.Omega.{arith}
+use borrow.Author.Needs.{needs}
+use borrow.Author.Tests.{not-true, not-false}
+use Rattle.text.proofs.Bodies.{stop-inputs, stop-latches, stop-lamps, stop-gates, end-over, end-last}
 use Rattle.text.proofs.judge_body.Statement.{statement}
 use Rattle.text.proofs.judge_body.Tie as tie
 
-abbrev Inv-loop : tie.InvT-loop
-Inv-loop text at counts most lines next₀ i₀ next i = Turns text at counts next i
+mul-latch : tie.Need-mul-latch
+mul-latch c = search needs
 
-abbrev μ-loop : tie.MeasureT-loop
-μ-loop text at counts most lines next₀ i₀ next i = lines - i
+add-latch : tie.Need-add-latch
+add-latch c = search needs
 
-add-most : tie.Need-add-most Inv-loop μ-loop
-add-most c = omega arith
+mul-gate : tie.Need-mul-gate
+mul-gate c = search needs
 
-add-most-2 : tie.Need-add-most-2 Inv-loop μ-loop
-add-most-2 c = omega arith
+add-gate : tie.Need-add-gate
+add-gate c = search needs
 
-mul-most : tie.Need-mul-most Inv-loop μ-loop
-mul-most c = omega arith
+add-most : tie.Need-add-most
+add-most c = search needs
 
-add-most-3 : tie.Need-add-most-3 Inv-loop μ-loop
-add-most-3 c = omega arith
+add-most-2 : tie.Need-add-most-2
+add-most-2 c = search needs
 
-line-count-requires : tie.Need-line-count-requires Inv-loop μ-loop
-line-count-requires c κs = omega arith
+mul-most : tie.Need-mul-most
+mul-most c = search needs
 
-loop-holds : tie.Need-loop-holds Inv-loop μ-loop
-loop-holds c = turns-first _ _ _ (omega arith)
+add-most-3 : tie.Need-add-most-3
+add-most-3 c = search needs
 
-due-requires : tie.Need-due-requires Inv-loop μ-loop
-due-requires c κs = omega arith
+judge-lines-requires : tie.Need-judge-lines-requires
+judge-lines-requires c κs = search needs
 
-judge-line-requires : tie.Need-judge-line-requires Inv-loop μ-loop
-judge-line-requires c κs = omega arith
+returns : tie.Need-returns
+returns c = stop-inputs _ _ _ (c .before .before .judge-lines .ensures) (c .if1 .taken)
 
-returns : tie.Need-returns Inv-loop μ-loop
-returns c = turns-stop _ _ _ (c .before .before .before .before .before .loop .inv) (omega arith) (c .before .before .before .due .ensures) (c .before .before .judge-line .ensures) (c .if1 .taken)
+judge-lines-requires-2 : tie.Need-judge-lines-requires-2
+judge-lines-requires-2 c κs = search needs
 
-add-i : tie.Need-add-i Inv-loop μ-loop
-add-i c = omega arith
+returns-2 : tie.Need-returns-2
+returns-2 c =
+    let latches = c .before .before in
+    let inputs = latches .before .before .before in
+    stop-latches _ _ _ (inputs .judge-lines .ensures) (latches .before .if1 .left) (latches .judge-lines2 .ensures) (c .if2 .taken)
 
-loop-less : tie.Need-loop-less Inv-loop μ-loop
-loop-less c = omega arith
+judge-lines-requires-3 : tie.Need-judge-lines-requires-3
+judge-lines-requires-3 c κs = search needs
 
-loop-again : tie.Need-loop-again Inv-loop μ-loop
-loop-again c = turns-next _ _ _ (c .before .before .before .before .before .loop .inv) (omega arith) (c .before .before .before .due .ensures) (c .before .before .judge-line .ensures) (c .if1 .left)
+returns-3 : tie.Need-returns-3
+returns-3 c =
+    let lamps = c .before .before in
+    let latches = lamps .before .before .before in
+    let inputs = latches .before .before .before in
+    stop-lamps _ _ _ (inputs .judge-lines .ensures) (latches .before .if1 .left) (latches .judge-lines2 .ensures) (lamps .before .if2 .left) (lamps .judge-lines3 .ensures) (c .if3 .taken)
 
-ended-requires : tie.Need-ended-requires Inv-loop μ-loop
-ended-requires c κs = omega arith
+judge-lines-requires-4 : tie.Need-judge-lines-requires-4
+judge-lines-requires-4 c κs =
+    let start = c .before .before .before .before .before .before .before .before .before .before .before .before .before .before in
+    (omega arith, omega (arith, start .pre .0))
 
-returns-2 : tie.Need-returns-2 Inv-loop μ-loop
-returns-2 c = turns-over _ _ _ (c .before .before .before .loop .inv) (omega arith) (c .before .ended .ensures) (not-true _ (c .if2 .taken))
+returns-4 : tie.Need-returns-4
+returns-4 c =
+    let gates = c .before .before in
+    let lamps = gates .before .before .before in
+    let latches = lamps .before .before .before in
+    let inputs = latches .before .before .before in
+    stop-gates _ _ _ (inputs .judge-lines .ensures) (latches .before .if1 .left) (latches .judge-lines2 .ensures) (lamps .before .if2 .left) (lamps .judge-lines3 .ensures) (gates .before .if3 .left) (gates .judge-lines4 .ensures) (c .if4 .taken)
 
-returns-3 : tie.Need-returns-3 Inv-loop μ-loop
-returns-3 c = turns-last _ _ _ (c .before .before .before .loop .inv) (omega arith) (c .before .ended .ensures) (not-false _ (c .if2 .left))
+ended-requires : tie.Need-ended-requires
+ended-requires c κs = search needs
+
+returns-5 : tie.Need-returns-5
+returns-5 c =
+    let gates = c .before .before .before .before in
+    let lamps = gates .before .before .before in
+    let latches = lamps .before .before .before in
+    let inputs = latches .before .before .before in
+    end-over _ _ _ (inputs .judge-lines .ensures) (latches .before .if1 .left) (latches .judge-lines2 .ensures) (lamps .before .if2 .left) (lamps .judge-lines3 .ensures) (gates .before .if3 .left) (gates .judge-lines4 .ensures) (c .before .before .if4 .left) (c .before .ended .ensures) (not-true _ (c .if5 .taken))
+
+returns-6 : tie.Need-returns-6
+returns-6 c =
+    let gates = c .before .before .before .before in
+    let lamps = gates .before .before .before in
+    let latches = lamps .before .before .before in
+    let inputs = latches .before .before .before in
+    end-last _ _ _ (inputs .judge-lines .ensures) (latches .before .if1 .left) (latches .judge-lines2 .ensures) (lamps .before .if2 .left) (lamps .judge-lines3 .ensures) (gates .before .if3 .left) (gates .judge-lines4 .ensures) (c .before .before .if4 .left) (c .before .ended .ensures) (not-false _ (c .if5 .left))
 
 pub judge-body-spec : {M : Type 1} → statement M
 judge-body-spec =
     tie.close
     (tie.spec
-    Inv-loop
-    μ-loop
+    mul-latch
+    add-latch
+    mul-gate
+    add-gate
     add-most
     add-most-2
     mul-most
     add-most-3
-    line-count-requires
-    loop-holds
-    due-requires
-    judge-line-requires
+    judge-lines-requires
     returns
-    add-i
-    loop-less
-    loop-again
-    ended-requires
+    judge-lines-requires-2
     returns-2
-    returns-3)
+    judge-lines-requires-3
+    returns-3
+    judge-lines-requires-4
+    returns-4
+    ended-requires
+    returns-5
+    returns-6)

@@ -1,18 +1,17 @@
--- `three::known` meets its contract: the table's entries are the rule's answers, which antt computes and compares. Assumes nothing.
+-- `three::known` meets its contract: the lent table has the rule's answers. Assumes nothing.
 use native.Mathlib.Omega.{arith}
 use borrow.Author.Needs.{needs}
-use Rattle.three.specs.Lists.{tabulate}
-use Rattle.three.specs.Record.{pairs, bad, knownPairs, judged}
+use Rattle.three.specs.Record.{judged, knownTable}
 use Rattle.three.proofs.Table.{entry}
 use Rattle.three.proofs.known.Statement.{statement}
 use Rattle.three.proofs.known.Tie as tie
 
-array-read-result : tie.Need-array-read-result
-array-read-result c = search needs
+element-copy-out-result : tie.Need-element-copy-out-result
+element-copy-out-result c = search needs
 
 returns : tie.Need-returns
-unfolding tabulate judged knownPairs bad pairs
-returns c = entry 0 judged 256 (c .args .byte) (omega arith)
+unfolding knownTable
+returns c = rw (c .before .pre) (entry 0 judged 256 (c .before .args .byte) (omega arith))
 
 pub known-spec : {M : Type 1} → statement M
-known-spec = tie.close (tie.spec array-read-result returns)
+known-spec = tie.close (tie.spec element-copy-out-result returns)

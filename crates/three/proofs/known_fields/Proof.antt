@@ -9,10 +9,13 @@ use Rattle.three.proofs.known_fields.Statement.{statement}
 use Rattle.three.proofs.known_fields.Tie as tie
 
 abbrev Inv-loop : tie.InvT-loop
-Inv-loop bytes fields count₀ k₀ k-end count k = (k ≤ k-end) × (count ≡ knownFields (unpack (4 * k) bytes))
+Inv-loop bytes fields counts count₀ k₀ k-end count k = (k ≤ k-end) × (count ≡ knownFields (unpack (4 * k) bytes))
 
 abbrev μ-loop : tie.MeasureT-loop
-μ-loop bytes fields count₀ k₀ k-end count k = k-end - k
+μ-loop bytes fields counts count₀ k₀ k-end count k = k-end - k
+
+known-table-requires : tie.Need-known-table-requires Inv-loop μ-loop
+known-table-requires c κs = tt
 
 record-length-requires : tie.Need-record-length-requires Inv-loop μ-loop
 record-length-requires c κs = tt
@@ -24,13 +27,13 @@ shared-slice-read-known : tie.Need-shared-slice-read-known Inv-loop μ-loop
 shared-slice-read-known c = omega arith
 
 known-requires : tie.Need-known-requires Inv-loop μ-loop
-known-requires c κs = tt
+known-requires c κs = c .before .before .before .before .before .known-table .ensures
 
 cast-count : tie.Need-cast-count Inv-loop μ-loop
 cast-count c = omega arith
 
 add-count : tie.Need-add-count Inv-loop μ-loop
-add-count c = let turn = c .before .before .before in omega (arith, counted-small _ _ _ (turn .loop .inv .1))
+add-count c = let turn = c .before .before .before .before in omega (arith, counted-small _ _ _ (turn .loop .inv .1))
 
 add-k : tie.Need-add-k Inv-loop μ-loop
 add-k c = omega arith
@@ -40,14 +43,14 @@ loop-less c = omega arith
 
 loop-again : tie.Need-loop-again Inv-loop μ-loop
 loop-again c =
-    let turn = c .before .before .before in
-    (omega arith, ap (λ n. turn .loop .count + n) (c .known .ensures) ∙ counted-next _ _ _ _ (turn .before .before .before .pre .1 .good) (omega arith) (turn .loop .inv .1))
+    let turn = c .before .before .before .before in
+    (omega arith, ap (λ n. turn .loop .count + n) (c .known .ensures) ∙ counted-next _ _ _ _ (turn .before .before .before .before .pre .1 .good) (omega arith) (turn .loop .inv .1))
 
 returns : tie.Need-returns Inv-loop μ-loop
 returns c =
-    let start = c .before .before .before in
+    let start = c .before .before .before .before in
     counted-last _ _ _ _ (start .before .pre .1 .good) (omega (arith, start .shared-slice-known .given (bytesFor (start .before .args .fields) - 1))) (omega arith) (c .before .loop .inv .1)
 
 pub known-fields-spec : {M : Type 1} → statement M
 known-fields-spec =
-    tie.close (tie.spec Inv-loop μ-loop record-length-requires loop-holds shared-slice-read-known known-requires cast-count add-count add-k loop-less loop-again returns)
+    tie.close (tie.spec Inv-loop μ-loop known-table-requires record-length-requires loop-holds shared-slice-read-known known-requires cast-count add-count add-k loop-less loop-again returns)

@@ -1,7 +1,6 @@
 -- `run::advance` meets its contract: the held latches first, and then the cube. Assumes nothing.
 use mathlib.Core.Path.{refl, _∙_}
 use Rattle.run.proofs.Keeping.{behind-one, due-held}
-use native.Mathlib.Omega.{arith}
 use borrow.Author.Needs.{needs}
 use Rattle.run.proofs.Progress.advance.Statement.{statement}
 use Rattle.run.proofs.Progress.advance.Tie as tie
