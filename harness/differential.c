@@ -6,6 +6,7 @@
  * Call number k of a seed does not depend on the calls before it: `differential 1 SEED k` makes it again.
  */
 #define _DEFAULT_SOURCE
+#include "chance.h"
 #include "guarded.h"
 #include "simulator.h"
 
@@ -32,40 +33,6 @@ enum {
 };
 
 /* ---- chance ---- */
-
-static uint64_t dice;
-
-static uint64_t draw(void)
-{
-    dice += UINT64_C(0xA3C59AC3D1F2B86B);
-    uint64_t mixed = dice;
-    mixed = (mixed ^ (mixed >> 31)) * UINT64_C(0x9D6E5F3B17C8A24D);
-    mixed = (mixed ^ (mixed >> 29)) * UINT64_C(0xC8B1E6D94F35A70B);
-    return mixed ^ (mixed >> 32);
-}
-
-static void throw_dice(uint64_t seed, uint64_t call)
-{
-    dice = seed;
-    dice = draw() ^ (call * UINT64_C(0xD1B54F3A96E7C285));
-    draw();
-}
-
-/* Draws are never two in one expression whose order C leaves open, so that a seed means the same calls everywhere. */
-static size_t below(size_t bound)
-{
-    return bound == 0 ? 0 : (size_t)(draw() % bound);
-}
-
-static size_t between(size_t least, size_t most)
-{
-    return least + below(most - least + 1);
-}
-
-static bool chance(unsigned percent)
-{
-    return below(100) < percent;
-}
 
 static size_t one_of(const size_t *choices, size_t count)
 {

@@ -8,6 +8,7 @@
  * random ones. The first that fails is kept in a file in the current folder. Exits 1 on a failure, 2 where no test was
  * made. */
 #define _GNU_SOURCE
+#include "chance.h"
 #include "simulator.h"
 
 #include <errno.h>
@@ -46,42 +47,7 @@ static void trouble(const char *what)
 
 /* ---- chance ---- */
 
-static uint64_t dice;
-
-static uint64_t draw(void)
-{
-    dice += UINT64_C(0x9E6D62D06F6A9A9B);
-    uint64_t mixed = dice;
-    mixed = (mixed ^ (mixed >> 30)) * UINT64_C(0xBF1C9A4D3E7185A7);
-    mixed = (mixed ^ (mixed >> 28)) * UINT64_C(0x94C3B06E1F8D25E9);
-    return mixed ^ (mixed >> 31);
-}
-
 static uint64_t seed, inputs_made;
-
-/* What an input is does not depend on how the ones before it were sent. */
-static void throw_dice(void)
-{
-    dice = seed;
-    dice = draw() ^ (inputs_made * UINT64_C(0xD3A5C1B7E96F4D2B));
-    draw();
-}
-
-/* Draws are never two in one expression whose order C leaves open, so that a seed means the same inputs everywhere. */
-static size_t below(size_t bound)
-{
-    return bound == 0 ? 0 : (size_t)(draw() % bound);
-}
-
-static size_t between(size_t least, size_t most)
-{
-    return least + below(most - least + 1);
-}
-
-static bool chance(unsigned percent)
-{
-    return below(100) < percent;
-}
 
 static void fill_noise(uint8_t *bytes, size_t count)
 {
@@ -522,7 +488,7 @@ static void try_way(enum way way)
 static void count_input(size_t *numbers)
 {
     inputs_made++;
-    throw_dice();
+    throw_dice(seed, inputs_made);
     numbers[due.number]++;
     if (due.number != CHUDRAVIK_ACCEPTED)
         return;
@@ -1053,7 +1019,7 @@ int main(int argc, char **argv)
     }
     size_t count = (size_t)number_from(argv[1]);
     seed = number_from(argv[2]);
-    throw_dice();
+    throw_dice(seed, inputs_made);
     command = argv + dashes + 1;
     load_files(argv + 3, (size_t)dashes - 3);
     check_own_report();
