@@ -23,13 +23,13 @@ pub struct Counts {
 }
 
 // "Ceilings: I 256, L 512, O 64, A 3,327"
-const MOST_INPUTS: usize = 256;
+pub const MOST_INPUTS: usize = 256;
 
-const MOST_LATCHES: usize = 512;
+pub const MOST_LATCHES: usize = 512;
 
-const MOST_LAMPS: usize = 64;
+pub const MOST_LAMPS: usize = 64;
 
-const MOST_GATES: usize = 3327;
+pub const MOST_GATES: usize = 3327;
 
 fn latch_kept(table: &[u16], at: usize, most: u16) -> bool
     requires { ⌜ at + 1 < length (now table) ⌝ }

@@ -20,7 +20,7 @@ use Rattle.text.specs.Calls.{readInto, zeros, Reading}
 use Rattle.text.proofs.Answers.{read-stops, read-fits}
 use Rattle.text.proofs.Grammar.{describes}
 use Rattle.text.proofs.Tables.{taken}
-use Rattle.text.proofs.RoundTrip.{Filled, read-filled}
+use Rattle.text.proofs.RoundTrip.{Carries, read-carries}
 use Rattle.text.proofs.Putting.{put-over}
 use Rattle.text.proofs.Numbers.{read-numbered}
 use Rattle.run.specs.declared.RunAnswer.{RunAnswer}
@@ -46,7 +46,7 @@ pub record Read (text : List ℕ) (counts : Counts) (table : List ℕ) : Type 0 
   pub content : Content
   pub is : readText text ≡ accepted content
   pub counts-are : counts ≡ content .counts
-  pub filled : Filled content table
+  pub carries : Carries content table
 
 module _ (text table : List ℕ) (room : 7742 ≤ length table) where
   words-fit : {c : Content} → readText text ≡ accepted c → tableLength (c .counts) ≤ length table
@@ -74,14 +74,14 @@ module _ (text table : List ℕ) (room : 7742 ≤ length table) where
           content = c;
           is = e;
           counts-are = reading .returns ∙ ap (leaves _ zeros) (fits e);
-          filled = rw (reading .fills ∙ ap (leaves _ table) (fits e)) (read-filled text e table (words-fit e));
+          carries = rw (reading .fills ∙ ap (leaves _ table) (fits e)) (read-carries text e table (words-fit e));
         }
         go (refused n) e =
             let some : 1 ≤ n = rw e at (read-numbered text) in
             absurd (omega (arith, some, z, reading .answers ∙ ap numberOf (read-stops text table e)))
 
 pub few : {text : List ℕ} {counts : Counts} {table : List ℕ} → Read text counts table → Bounded counts
-few read = rw (read .counts-are) (read .filled .few)
+few read = rw (read .counts-are) (read .carries .few)
 
 -- ---- what is run
 
@@ -90,7 +90,7 @@ module _ {text : List ℕ} {counts : Counts} {table : List ℕ} (read : Read tex
   given = record { counts = counts; table = table; w = 16; cubes = cubes; verdict = verdict; settled = settled }
 
   legal : 0 ≡ refusal (circuitTests counts table)
-  legal = rw (read .counts-are) (read .filled .taken-now)
+  legal = rw (read .counts-are) (read .carries .legal)
 
   passes : refusedBy given ≡ 0
   unfolding refusedBy
@@ -98,7 +98,7 @@ module _ {text : List ℕ} {counts : Counts} {table : List ℕ} (read : Read tex
 
   same-circuit : circuitIn given ≡ circuitOf (read .content .counts) (read .content .words)
   unfolding circuitIn
-  same-circuit = ap (λ (k : Counts). circuitOf k table) (read .counts-are) ∙ sym (circuit-front (read .content .counts) table) ∙ ap (circuitOf (read .content .counts)) (read .filled .front)
+  same-circuit = ap (λ (k : Counts). circuitOf k table) (read .counts-are) ∙ sym (circuit-front (read .content .counts) table) ∙ ap (circuitOf (read .content .counts)) (read .carries .front)
 
   -- the report is that of the run's outcome
   report-is : reportOf text ≡ ended (circuitIn given) (outcomeIn given)

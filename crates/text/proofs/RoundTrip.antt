@@ -68,20 +68,20 @@ taken-table c table h k = record {
 }
 
 -- what the reader leaves in a table: the words read stand in front, and 3, 10 and 11 do not refuse it
-pub record Filled (c : Content) (table : List ℕ) : Type 0 where
+pub record Carries (c : Content) (table : List ℕ) : Type 0 where
   pub front : take (tableLength (c .counts)) table ≡ c .words
-  pub taken-now : 0 ≡ refusal (circuitTests (c .counts) table)
+  pub legal : 0 ≡ refusal (circuitTests (c .counts) table)
   pub few : Bounded (c .counts)
 
-pub read-filled : (text : List ℕ) {c : Content} → readText text ≡ accepted c → (lent : List ℕ) → tableLength (c .counts) ≤ length lent → Filled c (over (c .words) lent)
+pub read-carries : (text : List ℕ) {c : Content} → readText text ≡ accepted c → (lent : List ℕ) → tableLength (c .counts) ≤ length lent → Carries c (over (c .words) lent)
 unfolding over
-read-filled text {c} e lent h =
+read-carries text {c} e lent h =
     let d = describes text e in
     let first = take-at (c .words) (drop (length (c .words)) lent) (tableLength (c .counts)) (d .whole) in
     let k : Taken (c .counts) (c .words) = taken (c .counts) (c .words) (d .legal) in
     record {
       front = first;
-      taken-now = taken-refusal (taken-table (c .counts) _ (simp (length-append, length-drop) (omega (arith, d .whole))) (rw first k));
+      legal = taken-refusal (taken-table (c .counts) _ (simp (length-append, length-drop) (omega (arith, d .whole))) (rw first k));
       few = k .bounded;
     }
 

@@ -18,6 +18,9 @@ ghost use Rattle.text.specs.Written.{Put, coded, lineNumbers, countNumbe
 // "The file opens with the four bytes `aag` and a space"
 const MAGIC: [u8; 4] = *b"aag ";
 
+// "At most 60,000 bytes."
+const MOST_TEXT: usize = 60000;
+
 // The kinds of line that a text has, in the order of the text.
 const INPUT_LINE: u8 = 0;
 
@@ -214,17 +217,16 @@ fn header_refusal(first: ReadLine) -> u32
         return 2;
     }
     let counts = counts_of(first);
-    // "Ceilings: I 256, L 512, O 64, A 3,327"
-    if counts.inputs > 256 {
+    if counts.inputs > circuit::MOST_INPUTS {
         return 3;
     }
-    if counts.latches > 512 {
+    if counts.latches > circuit::MOST_LATCHES {
         return 3;
     }
-    if counts.lamps > 64 {
+    if counts.lamps > circuit::MOST_LAMPS {
         return 3;
     }
-    if counts.gates > 3327 {
+    if counts.gates > circuit::MOST_GATES {
         return 3;
     }
     if entry(first, 0) != counts.inputs + counts.latches + counts.gates {
@@ -418,16 +420,21 @@ struct Judgement {
 fn judge(text: &[u8]) -> Judgement
     ensures { λ r. ⌜ TextJudged (now (text .entry)) r ⌝ }
 {
+    if text.len() > MOST_TEXT {
+        return Judgement {
+            number: 1,
+            counts: Counts {
+                inputs: 0,
+                latches: 0,
+                lamps: 0,
+                gates: 0,
+            },
+            body: 0,
+        };
+    }
     let first = header(text);
     let counts = counts_of(first);
     let body = first.next;
-    if text.len() > 60000 {
-        return Judgement {
-            number: 1,
-            counts: counts,
-            body: body,
-        };
-    }
     let number = header_refusal(first);
     if number != 0 {
         return Judgement {
