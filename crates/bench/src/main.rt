@@ -56,7 +56,7 @@ fn read_and_run(
     settled: &mut [u8],
 ) -> RunAnswer {
     let mut table = [0u16; 16];
-    let read = text::read(text, &mut table);
+    let read = reader::read(text, &mut table);
     if read.number != 0 {
         return RunAnswer {
             number: read.number,

@@ -1,8 +1,8 @@
 // The C interface (include/chudravik.h): each public call under its C name, with the same contract, and nothing else.
 use circuit::Counts;
+use reader::ReadAnswer;
 use run::RunAnswer;
-use text::ReadAnswer;
-use text::WriteAnswer;
+use writer::WriteAnswer;
 ghost use Rattle.circuit.specs.Tick.{Ticked};
 ghost use Rattle.text.specs.Calls.{Reading, Writing};
 ghost use Rattle.run.specs.Call.{Runs};
@@ -12,14 +12,14 @@ ghost use Rattle.run.specs.Promise.{Promises};
 pub extern "C" fn chudravik_read(text: &[u8], table: &mut [u16]) -> ReadAnswer
     ensures { λ r. ⌜ Reading (now (text .entry)) (now (table .entry)) (r .number) (r .counts) (now (table .exit)) ⌝ }
 {
-    text::read(text, table)
+    reader::read(text, table)
 }
 
 #[no_mangle]
 pub extern "C" fn chudravik_write(counts: Counts, table: &[u16], text: &mut [u8]) -> WriteAnswer
     ensures { λ r. ⌜ Writing counts (now (table .entry)) (now (text .entry)) (r .number) (r .bytes) (now (text .exit)) ⌝ }
 {
-    text::write(counts, table, text)
+    writer::write(counts, table, text)
 }
 
 #[no_mangle]

@@ -66,7 +66,7 @@ fn words_within(words: usize, buffer: &[u16]) -> usize
 // ---- read
 
 fn show_read(text: &[u8], table: &mut [u16]) {
-    let answer = text::read(text, table);
+    let answer = reader::read(text, table);
     say_number(b"read number ", answer.number as usize);
     let counts = answer.counts;
     say_number(b" I ", counts.inputs);
@@ -102,7 +102,7 @@ fn read_vector(line: &[u8]) {
 // ---- write
 
 fn show_write(counts: Counts, table: &[u16], text: &mut [u8]) {
-    let answer = text::write(counts, table, text);
+    let answer = writer::write(counts, table, text);
     say_number(b"write number ", answer.number as usize);
     say_number(b" bytes ", answer.bytes);
     say_bytes(b"; text", text);

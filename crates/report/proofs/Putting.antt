@@ -8,9 +8,9 @@ use lib.Seq.{sets-eq, take-length}
 use Rattle.three.proofs.Lists.{Stored, stored-last}
 use Rattle.three.specs.Value.{decode}
 use Rattle.text.specs.Decimal.{decimal}
-use Rattle.text.specs.Written.{Put}
+use Rattle.writer.specs.Written.{Put}
 use Rattle.text.proofs.Decimals.{length-below}
-use Rattle.text.proofs.Putting.{put-then}
+use Rattle.writer.proofs.Putting.{put-then}
 use Rattle.report.specs.Report.{item, said}
 
 -- a text that is stored whole is put

@@ -15,13 +15,13 @@ use Rattle.circuit.specs.Tick.{circuitTests}
 use Rattle.circuit.proofs.Beyond.{circuit-front}
 use Rattle.text.specs.Outcome.{Outcome, accepted, refused, numberOf, leaves}
 use Rattle.text.specs.Text.{Content, readText}
-use Rattle.text.specs.Written.{Put}
+use Rattle.writer.specs.Written.{Put}
 use Rattle.text.specs.Calls.{readInto, zeros, Reading}
 use Rattle.text.proofs.Answers.{read-stops, read-fits}
 use Rattle.text.proofs.Grammar.{describes}
 use Rattle.text.proofs.Tables.{taken}
 use Rattle.text.proofs.RoundTrip.{Carries, read-carries}
-use Rattle.text.proofs.Putting.{put-over}
+use Rattle.writer.proofs.Putting.{put-over}
 use Rattle.text.proofs.Numbers.{read-numbered}
 use Rattle.run.specs.declared.RunAnswer.{RunAnswer}
 use Rattle.run.specs.Run.{run}

@@ -11,9 +11,9 @@ use Rattle.three.specs.Value.{Three, unknown, low, high, decode}
 use Rattle.three.specs.Record.{pairAt, unpack}
 use Rattle.three.proofs.Lists.{getD-tabulate}
 use Rattle.three.proofs.Pack.{length-unpack}
-use Rattle.text.specs.Written.{Put}
+use Rattle.writer.specs.Written.{Put}
 use Rattle.text.specs.Bench.{bytes}
-use Rattle.text.proofs.Putting.{put-then}
+use Rattle.writer.proofs.Putting.{put-then}
 use Rattle.report.specs.declared.Row.{Row}
 use Rattle.report.specs.Report.{item, said, row, rows}
 

@@ -8,7 +8,7 @@ ghost use Prim.Native.Nat.{_+_, _*_, _≤_};
 ghost use lib.ListN.{length};
 ghost use Rattle.three.specs.Value.{decode};
 ghost use Rattle.three.specs.Record.{unpack};
-ghost use Rattle.text.specs.Written.{Put};
+ghost use Rattle.writer.specs.Written.{Put};
 ghost use Rattle.text.specs.Bench.{bytes};
 ghost use Rattle.report.specs.declared.Row.{Row};
 ghost use Rattle.report.specs.Report.{item, said, row as rowText, rows, closing, refusing, Reported};
@@ -46,7 +46,7 @@ fn put_item(out: &mut [u8], at: usize, name: &[u8], n: usize) -> usize
     ensures { λ r. ⌜ Put (now (out .entry)) at (item (now (name .entry)) n) (now (out .exit)) r × (r ≤ at + length (now (name .entry)) + 20) ⌝ }
 {
     let number = put_bytes(out, at, name);
-    text::put_number(out, number, n)
+    writer::put_number(out, number, n)
 }
 
 // What is said of a field: of 0, of 1, and of X.
@@ -133,7 +133,7 @@ fn report(text: &[u8], out: &mut [u8; REPORT_BYTES]) -> usize
     ensures { λ r. ⌜ Reported (now (text .entry)) (now (out .entry)) r (now (out .exit)) ⌝ }
 {
     let mut table = [0u16; TABLE_WORDS];
-    let read = text::read(text, &mut table);
+    let read = reader::read(text, &mut table);
     if read.number != 0 {
         return put_refusal(out, read.number);
     }

@@ -10,14 +10,5 @@ pub mod Bound
 pub mod Answers
 pub mod RoundTrip
 pub mod Determined
-pub mod Finding
-pub mod Judging
-pub mod Bodies
-pub mod Filling
-pub mod Answering
-pub mod Putting
-pub mod WrittenLine
-pub mod DigitCounts
-pub mod WrittenLines
-pub mod WrittenText
-pub mod WrittenAnswers
+pub mod Stores
+pub mod Coding

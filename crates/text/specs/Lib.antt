@@ -6,5 +6,4 @@ pub mod Text
 pub mod Calls
 pub mod Bench
 pub mod Edges
-pub mod Reader
-pub mod Written
+pub mod Coded

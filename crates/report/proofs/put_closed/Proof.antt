@@ -1,6 +1,6 @@
 -- `report::put_closed` meets its contract: the line on closure, the lamps and the latches, one behind the other. Assumes nothing.
 use native.Mathlib.Omega.{arith}
-use Rattle.text.proofs.Putting.{put-then}
+use Rattle.writer.proofs.Putting.{put-then}
 use borrow.Author.Needs.{needs}
 use Rattle.report.proofs.put_closed.Statement.{statement}
 use Rattle.report.proofs.put_closed.Tie as tie

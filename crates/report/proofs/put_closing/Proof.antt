@@ -1,7 +1,7 @@
 -- `report::put_closing` meets its contract: three numbers with their names, one behind the other. Assumes nothing.
 use native.Mathlib.Omega.{arith}
 use Rattle.text.specs.Bench.{bytes}
-use Rattle.text.proofs.Putting.{put-then}
+use Rattle.writer.proofs.Putting.{put-then}
 use Rattle.report.specs.Report.{closing}
 use borrow.Author.Needs.{needs}
 use Rattle.report.proofs.put_closing.Statement.{statement}

@@ -5,7 +5,7 @@ use borrow.Author.Needs.{needs}
 use Rattle.report.proofs.put_item.Statement.{statement}
 use Rattle.report.proofs.put_item.Tie as tie
 use Rattle.report.proofs.put_bytes.Reads as put-bytes-reads
-use Rattle.text.proofs.put_number.Reads as put-number-reads
+use Rattle.writer.proofs.put_number.Reads as put-number-reads
 
 put-bytes-requires : tie.Need-put-bytes-requires
 put-bytes-requires c κs = search needs

@@ -1,7 +1,7 @@
 -- `report::put_refusal` meets its contract: the number with its name, and the line's end. Assumes nothing.
 use native.Mathlib.Omega.{arith}
 use Rattle.text.specs.Bench.{bytes}
-use Rattle.text.proofs.Putting.{put-then}
+use Rattle.writer.proofs.Putting.{put-then}
 use Rattle.report.specs.Report.{refusing}
 use borrow.Author.Needs.{needs}
 use Rattle.report.proofs.put_refusal.Statement.{statement}

@@ -10,7 +10,7 @@ use Rattle.report.proofs.report.Tie as tie
 use Rattle.report.proofs.put_closed.Reads as put-closed-reads
 use Rattle.report.proofs.put_refusal.Reads as put-refusal-reads
 use Rattle.run.proofs.run.Reads as run-reads
-use Rattle.text.proofs.read.Reads as read-reads
+use Rattle.reader.proofs.read.Reads as read-reads
 
 slice-aggregate-read : tie.Need-slice-aggregate-read
 slice-aggregate-read c = search needs

@@ -1,0 +1,127 @@
+-- The second pass, turn by turn: what is left of the text has the words that are left of the table. Assumes nothing.
+use mathlib.Core.Path.{_≡_, refl, sym, _∙_, ap}
+use mathlib.Core.List.{List, [], _∷_, _++_}
+use Prim.Native.Nat.{ℕ, zero, suc, _+_, _*_, _≤_, _<_}
+use native.Mathlib.Omega.{arith}
+use borrow.Author.Tests.{leb-true}
+use lib.ListN.{length, getD, length-append}
+use lib.Seq.{sets, length-sets}
+use Rattle.three.specs.Lists.{over}
+use Rattle.circuit.specs.declared.Counts.{Counts}
+use Rattle.circuit.specs.Refusal.{Passed}
+use Rattle.circuit.specs.Table.{top, Kind, input, latch, lamp, gate, several, rowTests}
+use Rattle.text.specs.Line.{splitLine}
+use Rattle.text.specs.Outcome.{accepted, leaves}
+use Rattle.text.specs.Text.{words, lineTests, readBody}
+use Rattle.reader.specs.declared.ReadLine.{ReadLine}
+use Rattle.reader.specs.Reader.{from, numbersOf, LineFound, pairOf, WordsFit, bodyWords, Stand, stand, Fillable, Filled}
+use Rattle.text.proofs.Steps.{end-accepted, LineRead, line-accepted}
+use Rattle.reader.proofs.Bodies.{line-read}
+use Rattle.text.proofs.Stores.{sets-append, sets-front}
+use Rattle.text.proofs.Tables.{linesFrom, lines-first, lines-next, lines-last}
+
+-- ---- the words of a line, kind by kind
+
+module _ (own : ℕ) (ns : List ℕ) where
+  pub input-words : [] ≡ words (input own) ns
+  unfolding words
+  input-words = refl
+
+  pub latch-words : pairOf ns ≡ words (latch own) ns
+  unfolding words
+  latch-words = refl
+
+  pub gate-words : pairOf ns ≡ words (gate own) ns
+  unfolding words
+  gate-words = refl
+
+pub lamp-words : (ns : List ℕ) → getD ns 0 0 ∷ [] ≡ words lamp ns
+unfolding words
+lamp-words ns = refl
+
+-- words that nothing refuses have 16 bits
+words-small : (most : ℕ) (k : Kind) (ns : List ℕ) → most < 65536 → Passed (lineTests most k ns) → (i : ℕ) → getD (words k ns) i 0 < 65536
+unfolding lineTests words rowTests
+words-small most (input own) ns h p i = omega arith
+words-small most (latch own) ns h p zero = omega (arith, leb-true)
+words-small most (latch own) ns h p (suc zero) = omega (arith, leb-true)
+words-small most (latch own) ns h p (suc (suc i)) = omega arith
+words-small most lamp ns h p zero = omega (arith, leb-true)
+words-small most lamp ns h p (suc i) = omega arith
+words-small most (gate own) ns h p zero = omega (arith, leb-true)
+words-small most (gate own) ns h p (suc zero) = omega (arith, leb-true)
+words-small most (gate own) ns h p (suc (suc i)) = omega arith
+
+-- ---- a line, and those behind it
+
+module _ (text : List ℕ) (c : Counts) (k : Kind) (ks : List Kind) {at p : ℕ} {table : List ℕ} (f : Fillable text c (stand (k ∷ ks) at p table))
+    {l : ReadLine} (g : LineFound text (splitLine 3 (from text at)) l) where
+  record Turn : Type 0 where
+    passes : Passed (lineTests (top c) k (numbersOf l))
+    accepts : readBody (top c) ks (from text (l .next)) ≡ accepted (bodyWords c ks (from text (l .next)))
+    gives : words k (numbersOf l) ++ bodyWords c ks (from text (l .next)) ≡ bodyWords c (k ∷ ks) (from text at)
+
+  turn : Turn
+  unfolding bodyWords leaves
+  turn =
+      let r : LineRead (top c) k ks (from text at) (bodyWords c (k ∷ ks) (from text at)) = line-accepted (top c) k ks _ (f .accepts) in
+      let q = line-read l g (r .split) in
+      let on : readBody (top c) ks (from text (l .next)) ≡ accepted (r .others) = rw (q .1) (r .on) in
+      let same : bodyWords c ks (from text (l .next)) ≡ r .others = ap (leaves (λ ws. ws) []) on in
+      record { passes = rw (q .0) (r .passes); accepts = on ∙ ap accepted (sym same); gives = rw (same, q .0) (r .gives) }
+
+  turn-long : length (words k (numbersOf l)) + length (bodyWords c ks (from text (l .next))) ≡ length (bodyWords c (k ∷ ks) (from text at))
+  turn-long = let t : Turn = turn in sym (length-append (words k (numbersOf l)) _) ∙ ap length (t .gives)
+
+  line-fits : WordsFit (words k (numbersOf l)) p table
+  line-fits = let t : Turn = turn in
+      record { small = words-small (top c) k (numbersOf l) (let b = f .bounded in omega arith) (t .passes); room = omega (arith, turn-long, f .room) }
+
+  line-filled : {table′ : List ℕ} → table′ ≡ sets table p (words k (numbersOf l)) → Filled text c (stand (k ∷ ks) at p table) (stand ks (l .next) (p + length (words k (numbersOf l))) table′)
+  line-filled {table′} e =
+      let t : Turn = turn in
+      let long : length table′ ≡ length table = ap length e ∙ length-sets table p (words k (numbersOf l)) in
+      record {
+        left = record { bounded = f .bounded; within = g .within; accepts = t .accepts; room = omega (arith, turn-long, f .room) };
+        long = long;
+        same = rw e (sym (sets-append table p (words k (numbersOf l)) _) ∙ ap (sets table p) (t .gives));
+      }
+
+-- ---- a pass, and another behind it
+
+pub filled-none : {text : List ℕ} {c : Counts} {s : Stand} → Fillable text c s → Filled text c s s
+filled-none f = record { left = f; long = refl; same = refl }
+
+pub filled-then : {text : List ℕ} {c : Counts} {s t u : Stand} → Filled text c s t → Filled text c t u → Filled text c s u
+filled-then a b = record { left = b .left; long = b .long ∙ a .long; same = b .same ∙ a .same }
+
+pub filled-whole : {text : List ℕ} {c : Counts} {ks : List Kind} {at next p : ℕ} {table table′ : List ℕ} → Fillable text c (stand ks at 0 table)
+    → Filled text c (stand ks at 0 table) (stand [] next p table′) → table′ ≡ over (bodyWords c ks (from text at)) table
+filled-whole {c = c} {p = p} {table = table} {table′ = table′} f a =
+    let none : [] ≡ _ = end-accepted (top c) _ (a .left .accepts) .1 in
+    ap (sets table′ p) none ∙ a .same ∙ sets-front table _ (omega (arith, f .room))
+
+-- ---- lines of one kind, of which i are stored
+
+pub record Filling (text : List ℕ) (c : Counts) (kind : ℕ → Kind) (own n : ℕ) (ks : List Kind) (s : Stand) (next p i : ℕ) (table : List ℕ) : Type 0 where
+  pub few : i ≤ n
+  pub on : Filled text c s (stand (linesFrom kind own n ks i) next p table)
+
+module _ {text : List ℕ} {c : Counts} {kind : ℕ → Kind} {own n : ℕ} {ks : List Kind} where
+  pub filling-first : {at p q : ℕ} {table : List ℕ} → Fillable text c (stand (several kind own n ks) at p table) → q ≡ p
+      → Filling text c kind own n ks (stand (several kind own n ks) at p table) at q 0 table
+  filling-first {at} {p} {q} {table} f e = record { few = omega arith; on = rw (e, ← (lines-first kind own n ks)) (filled-none f) }
+
+  module _ {s : Stand} {next p i : ℕ} {table : List ℕ} (f : Filling text c kind own n ks s next p i table) where
+    module _ (h : i < n) {l : ReadLine} (g : LineFound text (splitLine 3 (from text next)) l) {ws : List ℕ} (e : ws ≡ words (kind (own + 2 * i)) (numbersOf l)) where
+      here : Filled text c s (stand (kind (own + 2 * i) ∷ linesFrom kind own n ks (i + 1)) next p table)
+      here = rw (lines-next kind own n ks i h) at (f .on)
+
+      pub filling-fits : WordsFit ws p table
+      filling-fits = rw e (line-fits text c _ _ (here .left) g)
+
+      pub filling-next : {table′ : List ℕ} {q : ℕ} → table′ ≡ sets table p ws → q ≡ p + length ws → Filling text c kind own n ks s (l .next) q (i + 1) table′
+      filling-next {table′} {q} t r = record { few = omega arith; on = rw (r, e) (filled-then here (line-filled text c _ _ (here .left) g (t ∙ ap (sets table p) e))) }
+
+    pub filling-last : {q : ℕ} → n ≤ i → q ≡ p → Filled text c s (stand ks next q table)
+    filling-last h e = rw (e, ← (lines-last kind own n ks i h)) (f .on)

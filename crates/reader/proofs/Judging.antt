@@ -1,0 +1,175 @@
+-- The reader's tests, in the order of the refusals: what each return says of the first line, and of a line of each kind. Assumes nothing.
+use mathlib.Core.Path.{_≡_, refl, sym, _∙_}
+use mathlib.Core.Bool.{Bool, true, false}
+use mathlib.Core.List.{List, [], _∷_}
+use Prim.Native.Nat.{ℕ, _≤_, _<_}
+use native.Mathlib.Omega.{arith}
+use borrow.Author.Tests.{eq-eqb, ne-eqb, le-leb, lt-leb, lt-ltb, le-ltb}
+use lib.Dec.{leb, ltb, eqb}
+use lib.ListN.{getD}
+use Rattle.three.proofs.Lists.{by-test}
+use Rattle.circuit.specs.declared.Counts.{Counts}
+use Rattle.circuit.specs.Refusal.{Test, _or_, refusal}
+use Rattle.circuit.specs.Table.{variables, ceilingTests, Kind, input, latch, lamp, gate, rowTests, Bounded}
+use Rattle.circuit.proofs.Refusals.{stops, past, none}
+use Rattle.reader.specs.declared.ReadLine.{ReadLine}
+use Rattle.text.specs.Text.{fits, owns, words, lineTests, countsOf, headerTests}
+use Rattle.reader.specs.Reader.{Shape, numbersOf}
+use Rattle.text.proofs.Outcomes.{passed-refusal}
+use Rattle.text.proofs.Tables.{bounded-passed}
+use Rattle.reader.proofs.Finding.{line-length}
+
+-- a test with the number that the others give anyway
+either : (b : Bool) (ts : List Test) {k : ℕ} → k ≡ refusal ts → k ≡ refusal (b or k ∷ ts)
+either b ts h = by-test b (λ e. past _ ts e h) (stops _ ts)
+
+-- ---- the first line: the ceilings, and then M
+
+module _ (l : ReadLine) (s : Shape l) where
+  pub header-count : (l .count ≡ 5 → ⊥) → 2 ≡ refusal (headerTests (numbersOf l))
+  unfolding headerTests
+  header-count h = stops _ _ (rw (line-length l s) (ne-eqb (l .count) 5 h))
+
+  module _ (five : l .count ≡ 5) {c : Counts} (e : c ≡ countsOf (numbersOf l)) where
+    header-past : {k : ℕ} → k ≡ refusal (eqb (getD (numbersOf l) 0 0) (variables c) or 3 ∷ ceilingTests c) → k ≡ refusal (headerTests (numbersOf l))
+    unfolding headerTests
+    header-past h = past _ _ (rw (line-length l s) (eq-eqb (l .count) 5 five)) (rw e at h)
+
+    pub header-inputs : 256 < c .inputs → 3 ≡ refusal (headerTests (numbersOf l))
+    unfolding ceilingTests
+    header-inputs h = header-past (either _ _ (stops _ _ (lt-leb (c .inputs) 256 h)))
+
+    module _ (i : c .inputs ≤ 256) where
+      pub header-latches : 512 < c .latches → 3 ≡ refusal (headerTests (numbersOf l))
+      unfolding ceilingTests
+      header-latches h = header-past (either _ _ (past _ _ (le-leb (c .inputs) 256 i) (stops _ _ (lt-leb (c .latches) 512 h))))
+
+      module _ (j : c .latches ≤ 512) where
+        pub header-lamps : 64 < c .lamps → 3 ≡ refusal (headerTests (numbersOf l))
+        unfolding ceilingTests
+        header-lamps h = header-past (either _ _ (past _ _ (le-leb (c .inputs) 256 i) (past _ _ (le-leb (c .latches) 512 j) (stops _ _ (lt-leb (c .lamps) 64 h)))))
+
+        pub header-gates : c .lamps ≤ 64 → 3327 < c .gates → 3 ≡ refusal (headerTests (numbersOf l))
+        unfolding ceilingTests
+        header-gates k h =
+            header-past (either _ _ (past _ _ (le-leb (c .inputs) 256 i) (past _ _ (le-leb (c .latches) 512 j) (past _ _ (le-leb (c .lamps) 64 k) (stops _ _ (lt-leb (c .gates) 3327 h))))))
+
+    module _ {m : ℕ} (given : m ≡ getD (numbersOf l) 0 0) where
+      pub header-sum : (m ≡ variables c → ⊥) → 3 ≡ refusal (headerTests (numbersOf l))
+      header-sum h = header-past (stops _ _ (ne-eqb _ _ (λ q. h (given ∙ q))))
+
+      pub header-passes : Bounded c → m ≡ variables c → 0 ≡ refusal (headerTests (numbersOf l))
+      header-passes b h = header-past (past _ _ (eq-eqb _ _ (sym given ∙ h)) (passed-refusal _ (bounded-passed c b)))
+
+-- ---- a line: its count, its own literal, and then its words
+
+-- number i of a line
+abbrev pub nth : ReadLine → ℕ → ℕ
+nth l i = getD (numbersOf l) i 0
+
+module _ (most : ℕ) (k : Kind) (l : ReadLine) (s : Shape l) where
+  pub line-count : fits k (l .count) ≡ false → 4 ≡ refusal (lineTests most k (numbersOf l))
+  unfolding lineTests
+  line-count e = stops _ _ (rw (line-length l s) e)
+
+  module _ (e : fits k (l .count) ≡ true) where
+    line-own : owns k (numbersOf l) ≡ false → 5 ≡ refusal (lineTests most k (numbersOf l))
+    unfolding lineTests
+    line-own f = past _ _ (rw (line-length l s) e) (stops _ _ f)
+
+    line-words : {n : ℕ} → owns k (numbersOf l) ≡ true → n ≡ refusal (rowTests most k (words k (numbersOf l))) → n ≡ refusal (lineTests most k (numbersOf l))
+    unfolding lineTests
+    line-words f h = past _ _ (rw (line-length l s) e) (past _ _ f h)
+
+module _ (most own : ℕ) (l : ReadLine) (s : Shape l) where
+  pub input-count : (l .count ≡ 1 → ⊥) → 4 ≡ refusal (lineTests most (input own) (numbersOf l))
+  unfolding fits
+  input-count h = line-count most (input own) l s (ne-eqb _ _ h)
+
+  pub input-own : l .count ≡ 1 → (nth l 0 ≡ own → ⊥) → 5 ≡ refusal (lineTests most (input own) (numbersOf l))
+  unfolding fits owns
+  input-own h p = line-own most (input own) l s (eq-eqb _ _ h) (ne-eqb _ _ p)
+
+  pub input-passes : l .count ≡ 1 → nth l 0 ≡ own → 0 ≡ refusal (lineTests most (input own) (numbersOf l))
+  unfolding fits owns rowTests
+  input-passes h p = line-words most (input own) l s (eq-eqb _ _ h) (eq-eqb _ _ p) none
+
+module _ (most : ℕ) (l : ReadLine) (s : Shape l) where
+  pub lamp-count : (l .count ≡ 1 → ⊥) → 4 ≡ refusal (lineTests most lamp (numbersOf l))
+  unfolding fits
+  lamp-count h = line-count most lamp l s (ne-eqb _ _ h)
+
+  pub lamp-over : l .count ≡ 1 → most < nth l 0 → 6 ≡ refusal (lineTests most lamp (numbersOf l))
+  unfolding fits owns words rowTests
+  lamp-over h p = line-words most lamp l s (eq-eqb _ _ h) refl (stops _ _ (lt-leb _ _ p))
+
+  pub lamp-passes : l .count ≡ 1 → nth l 0 ≤ most → 0 ≡ refusal (lineTests most lamp (numbersOf l))
+  unfolding fits owns words rowTests
+  lamp-passes h p = line-words most lamp l s (eq-eqb _ _ h) refl (past _ _ (le-leb _ _ p) none)
+
+module _ (most own : ℕ) (l : ReadLine) (s : Shape l) where
+  pub latch-few : l .count < 2 → 4 ≡ refusal (lineTests most (latch own) (numbersOf l))
+  unfolding fits
+  latch-few h = line-count most (latch own) l s (rw (lt-leb 2 (l .count) h))
+
+  pub latch-many : 3 < l .count → 4 ≡ refusal (lineTests most (latch own) (numbersOf l))
+  unfolding fits
+  latch-many h = line-count most (latch own) l s (rw (le-leb 2 (l .count) (omega arith), lt-leb (l .count) 3 h))
+
+  module _ (p : 2 ≤ l .count) (q : l .count ≤ 3) where
+    latch-fits : fits (latch own) (l .count) ≡ true
+    unfolding fits
+    latch-fits = rw (le-leb 2 (l .count) p, le-leb (l .count) 3 q)
+
+    pub latch-own : (nth l 0 ≡ own → ⊥) → 5 ≡ refusal (lineTests most (latch own) (numbersOf l))
+    unfolding owns
+    latch-own h = line-own most (latch own) l s latch-fits (ne-eqb _ _ h)
+
+    module _ (o : nth l 0 ≡ own) where
+      latch-words : {n : ℕ} → n ≡ refusal (leb (nth l 1) most or 6 ∷ leb (nth l 2) 1 or 8 ∷ []) → n ≡ refusal (lineTests most (latch own) (numbersOf l))
+      unfolding owns words rowTests
+      latch-words h = line-words most (latch own) l s latch-fits (eq-eqb _ _ o) h
+
+      pub latch-over : most < nth l 1 → 6 ≡ refusal (lineTests most (latch own) (numbersOf l))
+      latch-over h = latch-words (stops _ _ (lt-leb _ _ h))
+
+      pub latch-reset : nth l 1 ≤ most → 1 < nth l 2 → 8 ≡ refusal (lineTests most (latch own) (numbersOf l))
+      latch-reset g h = latch-words (past _ _ (le-leb _ _ g) (stops _ _ (lt-leb _ _ h)))
+
+      pub latch-passes : nth l 1 ≤ most → nth l 2 ≤ 1 → 0 ≡ refusal (lineTests most (latch own) (numbersOf l))
+      latch-passes g h = latch-words (past _ _ (le-leb _ _ g) (past _ _ (le-leb _ _ h) none))
+
+module _ (most own : ℕ) (l : ReadLine) (s : Shape l) where
+  pub gate-count : (l .count ≡ 3 → ⊥) → 4 ≡ refusal (lineTests most (gate own) (numbersOf l))
+  unfolding fits
+  gate-count h = line-count most (gate own) l s (ne-eqb _ _ h)
+
+  module _ (p : l .count ≡ 3) where
+    pub gate-own : (nth l 0 ≡ own → ⊥) → 5 ≡ refusal (lineTests most (gate own) (numbersOf l))
+    unfolding fits owns
+    gate-own h = line-own most (gate own) l s (eq-eqb _ _ p) (ne-eqb _ _ h)
+
+    module _ (o : nth l 0 ≡ own) where
+      gate-words : {n : ℕ} → n ≡ refusal (leb (nth l 1) most or 6 ∷ leb (nth l 2) most or 6 ∷ ltb (nth l 1) own or 7 ∷ ltb (nth l 2) own or 7 ∷ []) → n ≡ refusal (lineTests most (gate own) (numbersOf l))
+      unfolding fits owns words rowTests
+      gate-words h = line-words most (gate own) l s (eq-eqb _ _ p) (eq-eqb _ _ o) h
+
+      pub gate-left-over : most < nth l 1 → 6 ≡ refusal (lineTests most (gate own) (numbersOf l))
+      gate-left-over h = gate-words (stops _ _ (lt-leb _ _ h))
+
+      module _ (g : nth l 1 ≤ most) where
+        pub gate-right-over : most < nth l 2 → 6 ≡ refusal (lineTests most (gate own) (numbersOf l))
+        gate-right-over h = gate-words (past _ _ (le-leb _ _ g) (stops _ _ (lt-leb _ _ h)))
+
+        module _ (h : nth l 2 ≤ most) where
+          gate-order : {n : ℕ} → n ≡ refusal (ltb (nth l 1) own or 7 ∷ ltb (nth l 2) own or 7 ∷ []) → n ≡ refusal (lineTests most (gate own) (numbersOf l))
+          gate-order r = gate-words (past _ _ (le-leb _ _ g) (past _ _ (le-leb _ _ h) r))
+
+          pub gate-left : own ≤ nth l 1 → 7 ≡ refusal (lineTests most (gate own) (numbersOf l))
+          gate-left r = gate-order (stops _ _ (le-ltb _ _ r))
+
+          pub gate-right : nth l 1 < own → own ≤ nth l 2 → 7 ≡ refusal (lineTests most (gate own) (numbersOf l))
+          gate-right q r = gate-order (past _ _ (lt-ltb _ _ q) (stops _ _ (le-ltb _ _ r)))
+
+          pub gate-passes : nth l 1 < own → nth l 2 < own → 0 ≡ refusal (lineTests most (gate own) (numbersOf l))
+          gate-passes q r = gate-order (past _ _ (lt-ltb _ _ q) (past _ _ (lt-ltb _ _ r) none))

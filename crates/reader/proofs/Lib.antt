@@ -1,0 +1,5 @@
+pub mod Finding
+pub mod Judging
+pub mod Bodies
+pub mod Filling
+pub mod Answering

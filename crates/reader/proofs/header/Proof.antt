@@ -1,0 +1,22 @@
+-- `reader::header` meets its contract: the four bytes, and then a line. Assumes nothing.
+use borrow.Author.Tests.{not-true, not-false}
+use Rattle.reader.proofs.Finding.{opened-long, header-none, header-line}
+use native.Mathlib.Omega.{arith}
+use borrow.Author.Needs.{needs}
+use Rattle.reader.proofs.header.Statement.{statement}
+use Rattle.reader.proofs.header.Tie as tie
+
+opens-requires : tie.Need-opens-requires
+opens-requires c κs = search needs
+
+returns : tie.Need-returns
+returns c = header-none _ (c .before .opens .ensures) (not-true _ (c .if1 .taken))
+
+line-requires : tie.Need-line-requires
+line-requires c κs = (opened-long _ (c .before .opens .ensures) (not-false _ (c .if1 .left)), omega arith)
+
+returns-2 : tie.Need-returns-2
+returns-2 c = rw (header-line _ (c .before .before .opens .ensures) (not-false _ (c .before .if1 .left))) (c .line .ensures)
+
+pub header-spec : {M : Type 1} → statement M
+header-spec = tie.close (tie.spec opens-requires returns line-requires returns-2)

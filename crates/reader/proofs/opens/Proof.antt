@@ -1,0 +1,61 @@
+-- `reader::opens` meets its contract: each byte is tried in turn. Assumes nothing.
+use mathlib.Core.Path.{refl, sym, _∙_}
+use Prim.Native.Nat.{_-_}
+use borrow.Author.Tests.{eq-eqb, ne-eqb}
+use lib.Dec.{eqb}
+use lib.ListN.{getD}
+use Rattle.three.proofs.Lists.{Tried, tried-first, tried-next, tried-fails, tried-all}
+use Rattle.text.specs.Text.{magic}
+use Rattle.reader.proofs.Finding.{opened-short, opened-alike}
+use native.Mathlib.Omega.{arith}
+use Rattle.reader.proofs.opens.Statement.{statement}
+use Rattle.reader.proofs.opens.Tie as tie
+
+abbrev Inv-loop : tie.InvT-loop
+Inv-loop text i₀ i = Tried 4 (λ k. eqb (getD magic k 0) (getD text k 0)) i
+
+abbrev μ-loop : tie.MeasureT-loop
+μ-loop text i₀ i = 4 - i
+
+returns : tie.Need-returns Inv-loop μ-loop
+returns c = opened-short _ (c .if1 .taken)
+
+loop-holds : tie.Need-loop-holds Inv-loop μ-loop
+loop-holds c = tried-first _ _
+
+shared-slice-read-if2 : tie.Need-shared-slice-read-if2 Inv-loop μ-loop
+shared-slice-read-if2 c = omega arith
+
+array-read-if2 : tie.Need-array-read-if2 Inv-loop μ-loop
+array-read-if2 c = omega arith
+
+returns-2 : tie.Need-returns-2 Inv-loop μ-loop
+returns-2 c = tried-fails _ _ (c .before .before .loop-test .taken) refl (ne-eqb _ _ (λ e. c .if2 .taken (sym e))) ∙ opened-alike _ (c .before .before .before .before .if1 .left)
+
+add-i : tie.Need-add-i Inv-loop μ-loop
+add-i c = omega arith
+
+loop-less : tie.Need-loop-less Inv-loop μ-loop
+loop-less c = omega arith
+
+loop-again : tie.Need-loop-again Inv-loop μ-loop
+loop-again c = tried-next _ _ (c .before .before .before .loop .inv) (c .before .before .loop-test .taken) refl (eq-eqb _ _ (sym (c .if2 .left)))
+
+returns-3 : tie.Need-returns-3 Inv-loop μ-loop
+returns-3 c = tried-all _ _ (c .before .loop .inv) (c .loop-test .left) ∙ opened-alike _ (c .before .before .if1 .left)
+
+pub opens-spec : {M : Type 1} → statement M
+opens-spec =
+    tie.close
+    (tie.spec
+    Inv-loop
+    μ-loop
+    returns
+    loop-holds
+    shared-slice-read-if2
+    array-read-if2
+    returns-2
+    add-i
+    loop-less
+    loop-again
+    returns-3)

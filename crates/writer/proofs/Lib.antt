@@ -1,0 +1,6 @@
+pub mod Putting
+pub mod WrittenLine
+pub mod DigitCounts
+pub mod WrittenLines
+pub mod WrittenText
+pub mod WrittenAnswers

@@ -1,0 +1,125 @@
+-- Laws of one written line: its text and its length by how many numbers it has, its numbers by its kind, and the first line. Assumes nothing.
+use mathlib.Core.Path.{_≡_, refl, ap, _∙_}
+use mathlib.Core.List.{List, [], _∷_, _++_, append-assoc}
+use Prim.Native.Nat.{ℕ, zero, suc, _+_, _≤_, _<_}
+use native.Mathlib.Nat.{add-zero}
+use native.Mathlib.Omega.{arith}
+use lib.ListN.{length, length-append, getD, drop}
+use lib.Seq.{getD-drop}
+use Rattle.circuit.specs.declared.Counts.{Counts}
+use Rattle.circuit.specs.Table.{variables, width}
+use Rattle.writer.specs.declared.LineNumbers.{LineNumbers}
+use Rattle.text.specs.Decimal.{decimal}
+use Rattle.text.specs.Line.{newline, space, lineText}
+use Rattle.text.specs.Text.{magic, headNumbers, shown, numbers}
+use Rattle.text.specs.Coded.{coded}
+use Rattle.text.proofs.Coding.{width-two, coded-gate}
+use Rattle.writer.specs.Written.{andMore, lineNumbers, countNumbers, Shows}
+
+-- ---- by how many numbers it has
+
+none-text : (m a b c : ℕ) → m ≡ 0 → lineText (andMore m a b c) ≡ decimal a ++ newline
+unfolding lineText andMore
+none-text m a b c e = rw (e, andMore)
+
+one-text : (m a b c : ℕ) → m ≡ 1 → lineText (andMore m a b c) ≡ (decimal a ++ space) ++ (decimal b ++ newline)
+unfolding lineText andMore
+one-text m a b c e = rw (e, andMore) (simp append-assoc)
+
+two-text : (m a b c : ℕ) → (m ≡ 0 → ⊥) → (m ≡ 1 → ⊥) → lineText (andMore m a b c) ≡ ((decimal a ++ space) ++ (decimal b ++ space)) ++ (decimal c ++ newline)
+unfolding lineText andMore
+two-text zero a b c f g = absurd (f refl)
+two-text (suc zero) a b c f g = absurd (g refl)
+two-text (suc (suc m)) a b c f g = simp append-assoc
+
+some-text : (m a b c : ℕ) → (m ≡ 0 → ⊥) → length (decimal a) + 1 + (length (decimal b) + 1) ≤ length (lineText (andMore m a b c))
+unfolding lineText andMore
+some-text zero a b c f = absurd (f refl)
+some-text (suc zero) a b c f = simp length-append (omega arith)
+some-text (suc (suc m)) a b c f = simp length-append (omega arith)
+
+-- the bytes of a number and the byte behind it
+abbrev pub word : ℕ → ℕ → List ℕ
+word n behind = decimal n ++ (behind ∷ [])
+
+module _ (l : LineNumbers) where
+  -- one number
+  pub none-line : l .more ≡ 0 → lineText (lineNumbers l) ≡ word (l .first) 10
+  none-line e = none-text _ _ _ _ e
+
+  pub none-length : l .more ≡ 0 → length (lineText (lineNumbers l)) ≡ length (decimal (l .first)) + 1
+  none-length e = rw (none-line e) (simp length-append)
+
+  -- two
+  pub one-line : l .more ≡ 1 → lineText (lineNumbers l) ≡ word (l .first) 32 ++ word (l .second) 10
+  one-line e = one-text _ _ _ _ e
+
+  pub one-length : l .more ≡ 1 → length (lineText (lineNumbers l)) ≡ length (decimal (l .first)) + 1 + (length (decimal (l .second)) + 1)
+  one-length e = rw (one-line e) (simp length-append)
+
+  -- two or three
+  pub some-length : (l .more ≡ 0 → ⊥) → length (decimal (l .first)) + 1 + (length (decimal (l .second)) + 1) ≤ length (lineText (lineNumbers l))
+  some-length f = some-text _ _ _ _ f
+
+  -- three
+  pub two-line : (l .more ≡ 0 → ⊥) → (l .more ≡ 1 → ⊥) → lineText (lineNumbers l) ≡ (word (l .first) 32 ++ word (l .second) 32) ++ word (l .third) 10
+  two-line f g = two-text _ _ _ _ f g
+
+  pub two-length : (l .more ≡ 0 → ⊥) → (l .more ≡ 1 → ⊥) → length (lineText (lineNumbers l)) ≡ length (decimal (l .first)) + 1 + (length (decimal (l .second)) + 1) + (length (decimal (l .third)) + 1)
+  two-length f g = rw (two-line f g) (simp length-append)
+
+-- ---- by its kind
+
+shown-some : (r : ℕ) → (r ≡ 0 → ⊥) → shown r ≡ r ∷ []
+unfolding shown
+shown-some zero f = absurd (f refl)
+shown-some (suc r) f = refl
+
+module _ (own : ℕ) (words : List ℕ) (at : ℕ) where
+  word-first : getD (drop at words) 0 0 ≡ getD words at 0
+  word-first = getD-drop at words 0 0 ∙ ap (λ (k : ℕ). getD words k 0) (add-zero at)
+
+  word-second : getD (drop at words) 1 0 ≡ getD words (at + 1) 0
+  word-second = getD-drop at words 1 0
+
+  pub shows-input : {k : ℕ} → k ≡ 0 → own < 100000 → Shows k own words at (record { more = 0; first = own; second = 0; third = 0; words = 0 })
+  unfolding andMore numbers coded width
+  shows-input e h = rw e (record { same = refl; wide = refl; small = omega arith })
+
+  pub shows-lamp : {k : ℕ} → k ≡ 2 → getD words at 0 < 100000 → Shows k own words at (record { more = 0; first = getD words at 0; second = 0; third = 0; words = 1 })
+  unfolding andMore numbers coded width
+  shows-lamp e h = rw e (record { same = rw word-first; wide = refl; small = omega arith })
+
+  -- "absent meaning 0"
+  pub shows-plain : {k : ℕ} → k ≡ 1 → getD words (at + 1) 0 ≡ 0 → own < 100000 → getD words at 0 < 100000
+      → Shows k own words at (record { more = 1; first = own; second = getD words at 0; third = 0; words = 2 })
+  unfolding andMore numbers shown coded width
+  shows-plain e z h i = rw e (record { same = rw (word-first, word-second, z); wide = refl; small = omega arith })
+
+  module _ (k : ℕ) (fits : own < 100000) (left : getD words at 0 < 100000) (right : getD words (at + 1) 0 < 100000) where
+    pub shows-latch : k ≡ 1 → (getD words (at + 1) 0 ≡ 0 → ⊥) → Shows k own words at (record { more = 2; first = own; second = getD words at 0; third = getD words (at + 1) 0; words = 2 })
+    unfolding andMore numbers coded width
+    shows-latch e f = rw e (record { same = rw (word-first, word-second, shown-some _ f); wide = refl; small = omega arith })
+
+    pub shows-gate : (k ≡ 0 → ⊥) → (k ≡ 1 → ⊥) → (k ≡ 2 → ⊥) → Shows k own words at (record { more = 2; first = own; second = getD words at 0; third = getD words (at + 1) 0; words = 2 })
+    unfolding andMore numbers
+    shows-gate f g h = record { same = rw (coded-gate k own f g h, word-first, word-second); wide = width-two k own f h; small = omega arith }
+
+-- ---- the first line
+
+module _ (c : Counts) where
+  pub counts-text : lineText (countNumbers c) ≡ ((word (c .inputs) 32 ++ word (c .latches) 32) ++ word (c .lamps) 32) ++ word (c .gates) 10
+  unfolding lineText countNumbers
+  counts-text = simp append-assoc
+
+  pub counts-length : length (lineText (countNumbers c)) ≡ 4 + length (decimal (c .inputs)) + length (decimal (c .latches)) + length (decimal (c .lamps)) + length (decimal (c .gates))
+  unfolding lineText countNumbers
+  counts-length = simp length-append (omega arith)
+
+  pub head-text : magic ++ lineText (headNumbers c) ≡ (magic ++ word (variables c) 32) ++ lineText (countNumbers c)
+  unfolding lineText headNumbers countNumbers
+  head-text = simp append-assoc
+
+  pub head-length : length (magic ++ lineText (headNumbers c)) ≡ 5 + length (decimal (variables c)) + length (lineText (countNumbers c))
+  unfolding lineText headNumbers countNumbers
+  head-length = simp length-append (omega arith)

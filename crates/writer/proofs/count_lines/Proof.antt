@@ -1,0 +1,59 @@
+-- `writer::count_lines` meets its contract: line by line, what is left makes it the whole. Assumes nothing.
+use Rattle.writer.proofs.WrittenLines.{LinesLeft, lines-first, word-room, line-room, lines-next, lines-last}
+use Prim.Native.Nat.{_-_}
+use native.Mathlib.Omega.{arith}
+use Rattle.writer.proofs.count_lines.Statement.{statement}
+use Rattle.writer.proofs.count_lines.Tie as tie
+
+abbrev Inv-loop : tie.InvT-loop
+Inv-loop start kind own count table at end₀ due₀ word₀ i₀ end due word i = LinesLeft kind own count table at start end due word i
+
+abbrev μ-loop : tie.MeasureT-loop
+μ-loop start kind own count table at end₀ due₀ word₀ i₀ end due word i = count - i
+
+loop-holds : tie.Need-loop-holds Inv-loop μ-loop
+loop-holds c = lines-first _ _ _ _ _ _ (c .before .pre .0)
+
+written-line-requires : tie.Need-written-line-requires Inv-loop μ-loop
+written-line-requires c κs = (omega arith, word-room _ _ _ _ _ _ (c .before .loop .inv) (c .loop-test .taken))
+
+line-length-requires : tie.Need-line-length-requires Inv-loop μ-loop
+line-length-requires c κs = c .written-line .ensures .small
+
+add-end : tie.Need-add-end Inv-loop μ-loop
+add-end c = omega (arith, line-room _ _ _ _ _ _ (c .before .before .before .loop .inv) (c .before .before .loop-test .taken) (c .before .written-line .ensures))
+
+add-due : tie.Need-add-due Inv-loop μ-loop
+add-due c = omega arith
+
+add-word : tie.Need-add-word Inv-loop μ-loop
+add-word c = omega (arith, word-room _ _ _ _ _ _ (c .before .before .before .before .loop .inv) (c .before .before .before .loop-test .taken))
+
+add-i : tie.Need-add-i Inv-loop μ-loop
+add-i c = omega arith
+
+loop-less : tie.Need-loop-less Inv-loop μ-loop
+loop-less c = omega arith
+
+loop-again : tie.Need-loop-again Inv-loop μ-loop
+loop-again c = lines-next _ _ _ _ _ _ (c .before .before .before .before .loop .inv) (c .before .before .before .loop-test .taken) (c .before .before .written-line .ensures) (omega arith)
+
+returns : tie.Need-returns Inv-loop μ-loop
+returns c = lines-last _ _ _ _ _ _ (c .before .loop .inv) (c .loop-test .left)
+
+pub count-lines-spec : {M : Type 1} → statement M
+count-lines-spec =
+    tie.close
+    (tie.spec
+    Inv-loop
+    μ-loop
+    loop-holds
+    written-line-requires
+    line-length-requires
+    add-end
+    add-due
+    add-word
+    add-i
+    loop-less
+    loop-again
+    returns)

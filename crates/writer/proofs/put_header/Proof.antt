@@ -1,0 +1,50 @@
+-- `writer::put_header` meets its contract: the four bytes, M, and the counts behind it. Assumes nothing.
+use Rattle.writer.proofs.Putting.{put-then}
+use Rattle.writer.proofs.WrittenLine.{head-text, head-length}
+use native.Mathlib.Omega.{arith}
+use Rattle.writer.proofs.put_header.Statement.{statement}
+use Rattle.writer.proofs.put_header.Tie as tie
+
+put-magic-requires : tie.Need-put-magic-requires
+put-magic-requires c κs =
+    let start = c .before .before in
+    omega (arith, head-length (start .args .counts))
+
+add-put-word : tie.Need-add-put-word
+add-put-word c = omega arith
+
+add-put-word-2 : tie.Need-add-put-word-2
+add-put-word-2 c = omega arith
+
+put-word-requires : tie.Need-put-word-requires
+put-word-requires c κs =
+    let start = c .before .before .before .before .before .before .before .before in
+    omega (arith, head-length (start .args .counts))
+
+put-counts-requires : tie.Need-put-counts-requires
+put-counts-requires c κs =
+    let start = c .before .before .before .before .before .before .before .before .before .before .before .before in
+    omega (arith, head-length (start .args .counts))
+
+same-length : tie.Need-same-length
+same-length c = omega arith
+
+returns : tie.Need-returns
+returns c =
+    let others = c .before .before in
+    let variables = others .before .before .before .before in
+    let opening = variables .before .before .before .before .before .before in
+    let start = opening .before .before .before in
+    rw (head-text (start .args .counts)) (put-then (put-then (opening .put-magic .ensures) (variables .put-word .ensures .0)) (others .put-counts .ensures))
+
+pub put-header-spec : {M : Type 1} → statement M
+put-header-spec =
+    tie.close
+    (tie.spec
+    put-magic-requires
+    add-put-word
+    add-put-word-2
+    put-word-requires
+    put-counts-requires
+    same-length
+    returns)

@@ -1,0 +1,65 @@
+-- `writer::put_lines` meets its contract: line by line, what is left makes it the whole. Assumes nothing.
+use Rattle.writer.proofs.WrittenLines.{PutLeft, left-first, word-room, line-room, left-next, left-last}
+use Prim.Native.Nat.{_-_}
+use native.Mathlib.Omega.{arith}
+use Rattle.writer.proofs.put_lines.Statement.{statement}
+use Rattle.writer.proofs.put_lines.Tie as tie
+
+abbrev Inv-loop : tie.InvT-loop
+Inv-loop text₀ start kind own count table at end₀ due₀ word₀ i₀ text end due word i = PutLeft kind own count table at start text₀ text end due word i
+
+abbrev μ-loop : tie.MeasureT-loop
+μ-loop text₀ start kind own count table at end₀ due₀ word₀ i₀ text end due word i = count - i
+
+loop-holds : tie.Need-loop-holds Inv-loop μ-loop
+loop-holds c = left-first _ _ _ _ _ _ _ (c .before .before .pre .0)
+
+written-line-requires : tie.Need-written-line-requires Inv-loop μ-loop
+written-line-requires c κs = (omega arith, word-room _ _ _ _ _ _ (c .before .loop .inv .lines) (c .loop-test .taken))
+
+put-line-requires : tie.Need-put-line-requires Inv-loop μ-loop
+put-line-requires c κs = omega (arith, line-room _ _ _ _ _ _ (c .before .before .before .loop .inv .lines) (c .before .before .loop-test .taken) (c .before .written-line .ensures))
+
+add-due : tie.Need-add-due Inv-loop μ-loop
+add-due c = omega arith
+
+add-word : tie.Need-add-word Inv-loop μ-loop
+add-word c =
+    let turn = c .before .before .before .before .before .before in
+    omega (arith, word-room _ _ _ _ _ _ (turn .before .loop .inv .lines) (turn .loop-test .taken))
+
+add-i : tie.Need-add-i Inv-loop μ-loop
+add-i c = omega arith
+
+loop-less : tie.Need-loop-less Inv-loop μ-loop
+loop-less c = omega arith
+
+loop-again : tie.Need-loop-again Inv-loop μ-loop
+loop-again c =
+    let put = c .before .before .before in
+    let line = put .before .before in
+    let turn = line .before in
+    left-next _ _ _ _ _ _ (turn .before .loop .inv) (turn .loop-test .taken) (line .written-line .ensures) (put .put-line .ensures)
+
+same-length : tie.Need-same-length Inv-loop μ-loop
+same-length c = c .before .loop .inv .long
+
+returns : tie.Need-returns Inv-loop μ-loop
+returns c = left-last _ _ _ _ _ _ (c .before .loop .inv) (c .loop-test .left)
+
+pub put-lines-spec : {M : Type 1} → statement M
+put-lines-spec =
+    tie.close
+    (tie.spec
+    Inv-loop
+    μ-loop
+    loop-holds
+    written-line-requires
+    put-line-requires
+    add-due
+    add-word
+    add-i
+    loop-less
+    loop-again
+    same-length
+    returns)

@@ -1,0 +1,78 @@
+-- `writer::put_text` meets its contract: the first line, and then the lines of each kind. Assumes nothing.
+use Rattle.writer.proofs.WrittenText.{put-blocks, text-length, lines-inputs, lines-latches, lines-lamps, lines-gates}
+use native.Mathlib.Omega.{arith}
+use Rattle.writer.proofs.put_text.Statement.{statement}
+use Rattle.writer.proofs.put_text.Tie as tie
+
+mul-latch : tie.Need-mul-latch
+mul-latch c = omega arith
+
+add-latch : tie.Need-add-latch
+add-latch c = omega arith
+
+mul-gate : tie.Need-mul-gate
+mul-gate c = omega arith
+
+add-gate : tie.Need-add-gate
+add-gate c = omega arith
+
+mul-lamp-words : tie.Need-mul-lamp-words
+mul-lamp-words c = omega arith
+
+add-gate-words : tie.Need-add-gate-words
+add-gate-words c = omega arith
+
+put-header-requires : tie.Need-put-header-requires
+put-header-requires c κs =
+    let start = c .before .before .before .before .before .before .before in
+    (start .pre .bounded, omega (arith, text-length (start .args .counts) (start .args .table .now)))
+
+put-lines-requires : tie.Need-put-lines-requires
+put-lines-requires c κs =
+    let start = c .before .before .before .before .before .before .before .before .before .before .before in
+    (lines-inputs _ _ (start .pre), omega (arith, text-length (start .args .counts) (start .args .table .now)))
+
+put-lines-requires-2 : tie.Need-put-lines-requires-2
+put-lines-requires-2 c κs =
+    let start = c .before .before .before .before .before .before .before .before .before .before .before .before .before .before .before in
+    (lines-latches _ _ (start .pre), omega (arith, text-length (start .args .counts) (start .args .table .now)))
+
+put-lines-requires-3 : tie.Need-put-lines-requires-3
+put-lines-requires-3 c κs =
+    let start = c .before .before .before .before .before .before .before .before .before .before .before .before .before .before .before .before .before .before .before in
+    (lines-lamps _ _ (start .pre), omega (arith, text-length (start .args .counts) (start .args .table .now)))
+
+put-lines-requires-4 : tie.Need-put-lines-requires-4
+put-lines-requires-4 c κs =
+    let start = c .before .before .before .before .before .before .before .before .before .before .before .before .before .before .before .before .before .before .before .before .before .before .before in
+    (lines-gates _ _ (start .pre), omega (arith, text-length (start .args .counts) (start .args .table .now)))
+
+same-length : tie.Need-same-length
+same-length c = omega arith
+
+returns : tie.Need-returns
+returns c =
+    let gates = c .before .before in
+    let lamps = gates .before .before .before .before in
+    let latches = lamps .before .before .before .before in
+    let inputs = latches .before .before .before .before in
+    let first = inputs .before .before .before .before in
+    put-blocks _ _ (first .put-header .ensures) (inputs .put-lines .ensures) (latches .put-lines2 .ensures) (lamps .put-lines3 .ensures) (gates .put-lines4 .ensures)
+
+pub put-text-spec : {M : Type 1} → statement M
+put-text-spec =
+    tie.close
+    (tie.spec
+    mul-latch
+    add-latch
+    mul-gate
+    add-gate
+    mul-lamp-words
+    add-gate-words
+    put-header-requires
+    put-lines-requires
+    put-lines-requires-2
+    put-lines-requires-3
+    put-lines-requires-4
+    same-length
+    returns)

@@ -1,0 +1,375 @@
+// The writer of a circuit's text (document 01, Text). Every `put` answers the position behind the bytes that it writes.
+use circuit::Counts;
+use text::GATE_LINE;
+use text::INPUT_LINE;
+use text::LAMP_LINE;
+use text::LATCH_LINE;
+use text::MAGIC;
+ghost use mathlib.Core.Path.{_≡_};
+ghost use Prim.Native.Nat.{_≤_, _<_, _+_, _*_};
+ghost use lib.ListN.{length};
+ghost use mathlib.Core.List.{[], _∷_, _++_};
+ghost use Rattle.circuit.specs.Table.{Bounded, width};
+ghost use Rattle.text.specs.Decimal.{decimal};
+ghost use Rattle.text.specs.Line.{lineText};
+ghost use Rattle.text.specs.Text.{magic, headNumbers, writeText};
+ghost use Rattle.text.specs.Calls.{Writing};
+ghost use Rattle.text.specs.Coded.{coded};
+ghost use Rattle.writer.specs.Written.{Put, lineNumbers, countNumbers, Small, Shows, block, Lines, Ready};
+
+fn put_byte(text: &mut [u8], at: usize, byte: u8) -> usize
+    requires { ⌜ at < length (now text) ⌝ }
+    ensures { λ r. ⌜ Put (now (text .entry)) at (byte ∷ []) (now (text .exit)) r ⌝ }
+{
+    text[at] = byte;
+    at + 1
+}
+
+// "`aag` and a space"
+fn put_magic(text: &mut [u8]) -> usize
+    requires { ⌜ 4 ≤ length (now text) ⌝ }
+    ensures { λ r. ⌜ Put (now (text .entry)) 0 magic (now (text .exit)) r ⌝ }
+{
+    text[0] = MAGIC[0];
+    text[1] = MAGIC[1];
+    text[2] = MAGIC[2];
+    text[3] = MAGIC[3];
+    4
+}
+
+fn put_digit(text: &mut [u8], at: usize, d: usize) -> usize
+    requires { ⌜ (d < 10) × (at < length (now text)) ⌝ }
+    ensures { λ r. ⌜ Put (now (text .entry)) at ((48 + d) ∷ []) (now (text .exit)) r ⌝ }
+{
+    put_byte(text, at, 48 + d as u8)
+}
+
+// A number of one digit, and below of two, three and four; the most significant digit comes first.
+fn put_one(text: &mut [u8], at: usize, n: usize) -> usize
+    requires { ⌜ (n < 10) × (at + length (decimal n) ≤ length (now text)) ⌝ }
+    ensures { λ r. ⌜ Put (now (text .entry)) at (decimal n) (now (text .exit)) r ⌝ }
+{
+    put_digit(text, at, n)
+}
+
+fn put_two(text: &mut [u8], at: usize, n: usize) -> usize
+    requires { ⌜ (10 ≤ n) × (n < 100) × (at + length (decimal n) ≤ length (now text)) ⌝ }
+    ensures { λ r. ⌜ Put (now (text .entry)) at (decimal n) (now (text .exit)) r ⌝ }
+{
+    let last = put_one(text, at, n / 10);
+    put_digit(text, last, n % 10)
+}
+
+fn put_three(text: &mut [u8], at: usize, n: usize) -> usize
+    requires { ⌜ (100 ≤ n) × (n < 1000) × (at + length (decimal n) ≤ length (now text)) ⌝ }
+    ensures { λ r. ⌜ Put (now (text .entry)) at (decimal n) (now (text .exit)) r ⌝ }
+{
+    let last = put_two(text, at, n / 10);
+    put_digit(text, last, n % 10)
+}
+
+fn put_four(text: &mut [u8], at: usize, n: usize) -> usize
+    requires { ⌜ (1000 ≤ n) × (n < 10000) × (at + length (decimal n) ≤ length (now text)) ⌝ }
+    ensures { λ r. ⌜ Put (now (text .entry)) at (decimal n) (now (text .exit)) r ⌝ }
+{
+    let last = put_three(text, at, n / 10);
+    put_digit(text, last, n % 10)
+}
+
+// A number of any length, by a call for each digit.
+fn put_long(text: &mut [u8], at: usize, n: usize) -> usize
+    requires { ⌜ at + length (decimal n) ≤ length (now text) ⌝ }
+    ensures { λ r. ⌜ Put (now (text .entry)) at (decimal n) (now (text .exit)) r ⌝ }
+{
+    if n < 10 {
+        return put_one(text, at, n);
+    }
+    let last = put_long(text, at, n / 10);
+    put_digit(text, last, n % 10)
+}
+
+// "no leading zero except `0` itself". A text's numbers have at most four digits: they are put without a call for each digit.
+pub fn put_number(text: &mut [u8], at: usize, n: usize) -> usize
+    requires { ⌜ at + length (decimal n) ≤ length (now text) ⌝ }
+    ensures { λ r. ⌜ Put (now (text .entry)) at (decimal n) (now (text .exit)) r ⌝ }
+{
+    if n < 10 {
+        return put_one(text, at, n);
+    }
+    if n < 100 {
+        return put_two(text, at, n);
+    }
+    if n < 1000 {
+        return put_three(text, at, n);
+    }
+    if n < 10000 {
+        return put_four(text, at, n);
+    }
+    put_long(text, at, n)
+}
+
+// A number and the byte behind it.
+fn put_word(text: &mut [u8], at: usize, n: usize, behind: u8) -> usize
+    requires { ⌜ at + length (decimal n) < length (now text) ⌝ }
+    ensures { λ r. ⌜ Put (now (text .entry)) at (decimal n ++ (behind ∷ [])) (now (text .exit)) r × (r ≡ at + length (decimal n) + 1) ⌝ }
+{
+    let end = put_number(text, at, n);
+    put_byte(text, end, behind)
+}
+
+// A line's first number, 0, 1 or 2 more, and how many words of the table belong to it.
+struct LineNumbers {
+    more: usize,
+    first: usize,
+    second: usize,
+    third: usize,
+    words: usize,
+}
+
+fn put_line(text: &mut [u8], at: usize, line: LineNumbers) -> usize
+    requires { ⌜ at + length (lineText (lineNumbers line)) ≤ length (now text) ⌝ }
+    ensures { λ r. ⌜ Put (now (text .entry)) at (lineText (lineNumbers line)) (now (text .exit)) r ⌝ }
+{
+    if line.more == 0 {
+        return put_word(text, at, line.first, 10);
+    }
+    let second = put_word(text, at, line.first, 32);
+    if line.more == 1 {
+        return put_word(text, second, line.second, 10);
+    }
+    let third = put_word(text, second, line.second, 32);
+    put_word(text, third, line.third, 10)
+}
+
+// The line of a kind whose words stand at word `at`. "Written text gives the reset only where it is 1"
+fn written_line(kind: u8, own: usize, table: &[u16], at: usize) -> LineNumbers
+    requires { ⌜ (own < 100000) × (at + width (coded kind own) ≤ length (now table)) ⌝ }
+    ensures { λ r. ⌜ Shows kind own (now (table .entry)) at r ⌝ }
+{
+    if kind == INPUT_LINE {
+        return LineNumbers {
+            more: 0,
+            first: own,
+            second: 0,
+            third: 0,
+            words: 0,
+        };
+    }
+    let left = table[at] as usize;
+    if kind == LAMP_LINE {
+        return LineNumbers {
+            more: 0,
+            first: left,
+            second: 0,
+            third: 0,
+            words: 1,
+        };
+    }
+    let right = table[at + 1] as usize;
+    if kind == LATCH_LINE {
+        if right == 0 {
+            return LineNumbers {
+                more: 1,
+                first: own,
+                second: left,
+                third: 0,
+                words: 2,
+            };
+        }
+    }
+    LineNumbers {
+        more: 2,
+        first: own,
+        second: left,
+        third: right,
+        words: 2,
+    }
+}
+
+// Lines of one kind, the first with the literal `own` and its words at word `at`.
+fn put_lines(
+    text: &mut [u8],
+    start: usize,
+    kind: u8,
+    own: usize,
+    count: usize,
+    table: &[u16],
+    at: usize,
+) -> usize
+    requires { ⌜ Lines kind own count (now table) at × (start + length (block kind own count (now table) at) ≤ length (now text)) ⌝ }
+    ensures { λ r. ⌜ Put (now (text .entry)) start (block kind own count (now (table .entry)) at) (now (text .exit)) r ⌝ }
+{
+    let mut end = start;
+    let mut due = own;
+    let mut word = at;
+    for i in 0..count {
+        let line = written_line(kind, due, table, word);
+        end = put_line(text, end, line);
+        due += 2;
+        word += line.words;
+    }
+    end
+}
+
+// I L O A, and the newline.
+fn put_counts(text: &mut [u8], at: usize, counts: Counts) -> usize
+    requires { ⌜ at + length (lineText (countNumbers counts)) ≤ length (now text) ⌝ }
+    ensures { λ r. ⌜ Put (now (text .entry)) at (lineText (countNumbers counts)) (now (text .exit)) r ⌝ }
+{
+    let latches = put_word(text, at, counts.inputs, 32);
+    let lamps = put_word(text, latches, counts.latches, 32);
+    let gates = put_word(text, lamps, counts.lamps, 32);
+    put_word(text, gates, counts.gates, 10)
+}
+
+// "then M I L O A and a newline"
+fn put_header(text: &mut [u8], counts: Counts) -> usize
+    requires { ⌜ Bounded counts × (length (magic ++ lineText (headNumbers counts)) ≤ length (now text)) ⌝ }
+    ensures { λ r. ⌜ Put (now (text .entry)) 0 (magic ++ lineText (headNumbers counts)) (now (text .exit)) r ⌝ }
+{
+    let variables = put_magic(text);
+    let inputs = put_word(
+        text,
+        variables,
+        counts.inputs + counts.latches + counts.gates,
+        32,
+    );
+    put_counts(text, inputs, counts)
+}
+
+// "Then one line for each input, latch, lamp and gate, in that order."
+fn put_text(text: &mut [u8], counts: Counts, table: &[u16]) -> usize
+    requires { ⌜ Ready counts (now table) (length (now text)) ⌝ }
+    ensures { λ r. ⌜ Put (now (text .entry)) 0 (writeText counts (now (table .entry))) (now (text .exit)) r ⌝ }
+{
+    let latch = 2 + 2 * counts.inputs;
+    let gate = latch + 2 * counts.latches;
+    let lamp_words = 2 * counts.latches;
+    let gate_words = lamp_words + counts.lamps;
+    let inputs = put_header(text, counts);
+    let latches = put_lines(text, inputs, INPUT_LINE, 2, counts.inputs, table, 0);
+    let lamps = put_lines(text, latches, LATCH_LINE, latch, counts.latches, table, 0);
+    let gates = put_lines(text, lamps, LAMP_LINE, 0, counts.lamps, table, lamp_words);
+    put_lines(
+        text,
+        gates,
+        GATE_LINE,
+        gate,
+        counts.gates,
+        table,
+        gate_words,
+    )
+}
+
+// ---- the same, counted before the first byte is written
+
+fn digits(n: usize) -> usize
+    requires { ⌜ n < 100000 ⌝ }
+    ensures { λ r. ⌜ (r ≡ length (decimal n)) × (r ≤ 5) ⌝ }
+{
+    if n < 10 {
+        return 1;
+    }
+    if n < 100 {
+        return 2;
+    }
+    if n < 1000 {
+        return 3;
+    }
+    if n < 10000 {
+        return 4;
+    }
+    5
+}
+
+fn line_length(line: LineNumbers) -> usize
+    requires { ⌜ Small line ⌝ }
+    ensures { λ r. ⌜ r ≡ length (lineText (lineNumbers line)) ⌝ }
+{
+    let first = digits(line.first) + 1;
+    if line.more == 0 {
+        return first;
+    }
+    let second = first + digits(line.second) + 1;
+    if line.more == 1 {
+        return second;
+    }
+    second + digits(line.third) + 1
+}
+
+fn count_lines(start: usize, kind: u8, own: usize, count: usize, table: &[u16], at: usize) -> usize
+    requires { ⌜ Lines kind own count (now table) at × (start + length (block kind own count (now table) at) ≤ 60000) ⌝ }
+    ensures { λ r. ⌜ r ≡ start + length (block kind own count (now (table .entry)) at) ⌝ }
+{
+    let mut end = start;
+    let mut due = own;
+    let mut word = at;
+    for i in 0..count {
+        let line = written_line(kind, due, table, word);
+        end += line_length(line);
+        due += 2;
+        word += line.words;
+    }
+    end
+}
+
+// The four bytes, the five numbers, and a byte behind each.
+fn header_length(counts: Counts) -> usize
+    requires { ⌜ Bounded counts ⌝ }
+    ensures { λ r. ⌜ r ≡ length (magic ++ lineText (headNumbers counts)) ⌝ }
+{
+    let variables = digits(counts.inputs + counts.latches + counts.gates);
+    let inputs = digits(counts.inputs);
+    let latches = digits(counts.latches);
+    let lamps = digits(counts.lamps);
+    let gates = digits(counts.gates);
+    9 + variables + inputs + latches + lamps + gates
+}
+
+fn text_length(counts: Counts, table: &[u16]) -> usize
+    requires { ⌜ Ready counts (now table) 60000 ⌝ }
+    ensures { λ r. ⌜ r ≡ length (writeText counts (now (table .entry))) ⌝ }
+{
+    let latch = 2 + 2 * counts.inputs;
+    let gate = latch + 2 * counts.latches;
+    let lamp_words = 2 * counts.latches;
+    let gate_words = lamp_words + counts.lamps;
+    let inputs = header_length(counts);
+    let latches = count_lines(inputs, INPUT_LINE, 2, counts.inputs, table, 0);
+    let lamps = count_lines(latches, LATCH_LINE, latch, counts.latches, table, 0);
+    let gates = count_lines(lamps, LAMP_LINE, 0, counts.lamps, table, lamp_words);
+    count_lines(gates, GATE_LINE, gate, counts.gates, table, gate_words)
+}
+
+// ---- the call
+
+// The writer's number, and the count of bytes written.
+#[repr(C)]
+pub struct WriteAnswer {
+    pub number: u32,
+    pub bytes: usize,
+}
+
+// "Writer: 3, 10 for the table, 11, 10 for the text."
+pub fn write(counts: Counts, table: &[u16], text: &mut [u8]) -> WriteAnswer
+    ensures { λ r. ⌜ Writing counts (now (table .entry)) (now (text .entry)) (r .number) (r .bytes) (now (text .exit)) ⌝ }
+{
+    let number = circuit::circuit_refusal(counts, table);
+    if number != 0 {
+        return WriteAnswer {
+            number: number,
+            bytes: 0,
+        };
+    }
+    if text.len() < text_length(counts, table) {
+        return WriteAnswer {
+            number: 10,
+            bytes: 0,
+        };
+    }
+    let bytes = put_text(text, counts, table);
+    WriteAnswer {
+        number: 0, // written
+        bytes: bytes,
+    }
+}
