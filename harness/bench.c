@@ -17,7 +17,7 @@
 #include <string.h>
 #include <time.h>
 
-enum { INTERVAL = 16, DEFAULT_ROUNDS = 25, MOST_ROUNDS = 10000, POISON = 0xA5 };
+enum { INTERVAL = 16, DEFAULT_ROUNDS = 60, MOST_ROUNDS = 10000, POISON = 0xA5 };
 
 static const double LEAST_NANOSECONDS = 4e6; /* of one round */
 
