@@ -9,7 +9,6 @@ ghost use lib.ListN.{length};
 ghost use Rattle.three.specs.Value.{decode};
 ghost use Rattle.three.specs.Record.{unpack};
 ghost use Rattle.writer.specs.Written.{Put};
-ghost use Rattle.text.specs.Bench.{bytes};
 ghost use Rattle.report.specs.declared.Row.{Row};
 ghost use Rattle.report.specs.Report.{item, said, row as rowText, rows, closing, refusing, Reported};
 
