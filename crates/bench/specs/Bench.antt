@@ -16,8 +16,8 @@ use Rattle.text.specs.Line.{strip, prepend, splitLine}
 use Rattle.text.specs.Outcome.{accepted, refused, after, tested, onward}
 use Rattle.text.specs.Text.{fits, owns, words, lineTests, ends, readBody, header, countsOf, headerTests, readText}
 use Rattle.text.specs.Bench.{bytes}
-use Rattle.run.specs.Run.{hold, differing, due, switchesUnknown, nextCube, lampsIn, startField, start, reached, widened, store, stage, cubeAt, search, closed, full, back, run, merge, verdict as verdictOf, settled as settledOf}
-use Rattle.run.specs.Bytes.{packedCubes}
+use Rattle.cubes.specs.Run.{hold, differing, due, switchesUnknown, nextCube, lampsIn, startField, start, reached, widened, store, stage, cubeAt, search, closed, full, back, run, merge, verdict as verdictOf, settled as settledOf}
+use Rattle.cubes.specs.Call.{packedCubes}
 
 -- What a caller gets back: the number, n, j and s, and the bytes written of the cubes, of the verdict and of the settled record
 pub record Answer : Type 0 where

@@ -1,12 +1,12 @@
 // The C interface (include/chudravik.h): each public call under its C name, with the same contract, and nothing else.
 use circuit::Counts;
 use reader::ReadAnswer;
-use run::RunAnswer;
+use cubes::RunAnswer;
 use writer::WriteAnswer;
-ghost use Rattle.circuit.specs.Tick.{Ticked};
+ghost use Rattle.tick.specs.Tick.{Ticked};
 ghost use Rattle.text.specs.Calls.{Reading, Writing};
-ghost use Rattle.run.specs.Call.{Runs};
-ghost use Rattle.run.specs.Promise.{Promises};
+ghost use Rattle.cubes.specs.Call.{Runs};
+ghost use Rattle.cubes.specs.Promise.{Promises};
 
 #[no_mangle]
 pub extern "C" fn chudravik_read(text: &[u8], table: &mut [u16]) -> ReadAnswer
@@ -33,7 +33,7 @@ pub extern "C" fn chudravik_tick(
 ) -> u32
     ensures { λ r. ⌜ Ticked (record { counts = counts; table = now (table .entry); state = now (state .entry); switches = now (switches .entry); next = now (next .entry); lamps = now (lamps .entry) }) r (now (next .exit)) (now (lamps .exit)) ⌝ }
 {
-    circuit::tick(counts, table, state, switches, next, lamps)
+    tick::tick(counts, table, state, switches, next, lamps)
 }
 
 #[no_mangle]

@@ -1,9 +1,5 @@
-pub mod Beyond
-pub mod Determined
-pub mod Passing
 pub mod Refusals
 pub mod Rules
-pub mod Settling
+pub mod Legality
 pub mod Sound
-pub mod Ticking
-pub mod Values
+pub mod Beyond

@@ -9,8 +9,8 @@ use lib.ListN.{length}
 use Rattle.three.proofs.Lists.{by-test}
 use Rattle.circuit.specs.declared.Counts.{Counts}
 use Rattle.circuit.specs.Refusal.{Test, refusal, accepted, allHold, Passed}
-use Rattle.circuit.specs.Table.{top, tableLength, ceilingTests, kinds, tableTests, Bounded}
-use Rattle.circuit.specs.Tick.{circuitTests}
+use Rattle.circuit.specs.Table.{top, tableLength, ceilingTests, kinds, tableTests, circuitTests}
+use Rattle.circuit.specs.RulesInCode.{Bounded}
 
 -- the first test fails
 pub stops : (t : Test) (ts : List Test) → t .holds ≡ false → t .number ≡ refusal (t ∷ ts)

@@ -12,7 +12,8 @@ use lib.Seq.{getD-drop, drop-drop}
 use Rattle.three.specs.Lists.{every}
 use Rattle.three.proofs.Lists.{iff, and-parts, every-all, every-ext}
 use Rattle.circuit.specs.Refusal.{Test, allHold}
-use Rattle.circuit.specs.Table.{Kind, input, latch, lamp, gate, several, kinds, width, rowTests, tableTests, latchKept, lampKept, gateKept, top}
+use Rattle.circuit.specs.Table.{Kind, input, latch, lamp, gate, several, kinds, width, rowTests, tableTests, top}
+use Rattle.circuit.specs.RulesInCode.{latchKept, lampKept, gateKept}
 use Rattle.circuit.specs.declared.Counts.{Counts}
 
 pub and-fails : {a : Bool} (b : Bool) → a ≡ false → false ≡ (a && b)

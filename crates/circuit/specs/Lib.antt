@@ -1,5 +1,4 @@
 pub mod Circuit
 pub mod Refusal
 pub mod Table
-pub mod Working
-pub mod Tick
+pub mod RulesInCode

@@ -1,13 +1,12 @@
 -- Counts and the table of words (document 01, Circuit), the rules for the words, and the circuit that they make. Assumes nothing.
-use mathlib.Core.Bool.{Bool, _&&_}
 use mathlib.Core.List.{List, [], _∷_, _++_}
-use Prim.Native.Nat.{ℕ, zero, suc, _+_, _*_, _≤_, _<_}
+use Prim.Native.Nat.{ℕ, zero, suc, _+_, _*_}
 use lib.Dec.{leb, ltb}
 use lib.ListN.{length, getD, drop}
 use Rattle.three.specs.Lists.{tabulate}
 use Rattle.circuit.specs.declared.Counts.{Counts}
 use Rattle.circuit.specs.Circuit.{Circuit, Gate}
-use Rattle.circuit.specs.Refusal.{Test, _or_}
+use Rattle.circuit.specs.Refusal.{Test, _or_, allHold}
 
 -- M
 abbrev pub variables : Counts → ℕ
@@ -63,16 +62,6 @@ unfoldable pub tableTests : ℕ → List Kind → List ℕ → List Test
 tableTests most [] ws = []
 tableTests most (k ∷ ks) ws = rowTests most k ws ++ tableTests most ks (drop (width k) ws)
 
--- the same rules where a line's words stand at word `at`: 6 and 8 for a latch, 6 for a lamp, and for a gate 7, from which 6 follows
-unfoldable pub latchKept : ℕ → List ℕ → ℕ → Bool
-latchKept most words at = leb (getD words at 0) most && leb (getD words (at + 1) 0) 1
-
-unfoldable pub lampKept : ℕ → List ℕ → ℕ → Bool
-lampKept most words at = leb (getD words at 0) most
-
-unfoldable pub gateKept : ℕ → List ℕ → ℕ → Bool
-gateKept own words at = ltb (getD words at 0) own && ltb (getD words (at + 1) 0) own
-
 -- n gates whose operands stand from word `at` on
 unfoldable pub gatesFrom : List ℕ → ℕ → ℕ → List Gate
 gatesFrom words at n = tabulate n (λ i. record { left = getD words (at + 2 * i) 0; right = getD words (at + 2 * i + 1) 0 })
@@ -86,19 +75,8 @@ circuitOf c words = record {
   gates = gatesFrom words (2 * c .latches + c .lamps) (c .gates);
 }
 
--- counts within the ceilings
-pub record Bounded (c : Counts) : Type 0 where
-  pub inputs : c .inputs ≤ 256
-  pub latches : c .latches ≤ 512
-  pub lamps : c .lamps ≤ 64
-  pub gates : c .gates ≤ 3327
-
--- A circuit that 3, 10 and 11 do not refuse, rule by rule
-pub record Legal (c : Counts) (words : List ℕ) : Type 0 where
-  pub bounded : Bounded c
-  pub long : tableLength c ≤ length words
-  pub next : (i : ℕ) → i < c .latches → getD words (2 * i) 0 ≤ top c
-  pub reset : (i : ℕ) → i < c .latches → getD words (2 * i + 1) 0 ≤ 1
-  pub lamp : (i : ℕ) → i < c .lamps → getD words (2 * c .latches + i) 0 ≤ top c
-  pub left : (i : ℕ) → i < c .gates → getD words (2 * c .latches + c .lamps + 2 * i) 0 < 2 * (1 + c .inputs + c .latches + i)
-  pub right : (i : ℕ) → i < c .gates → getD words (2 * c .latches + c .lamps + 2 * i + 1) 0 < 2 * (1 + c .inputs + c .latches + i)
+-- every call that is given a circuit: 3, 10 for the table, 11
+unfoldable pub circuitTests : Counts → List ℕ → List Test
+circuitTests c table =
+    ceilingTests c
+    ++ (leb (tableLength c) (length table) or 10 ∷ allHold (tableTests (top c) (kinds c) table) or 11 ∷ [])

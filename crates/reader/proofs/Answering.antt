@@ -10,7 +10,8 @@ use Rattle.three.specs.Lists.{over}
 use Rattle.three.proofs.Lists.{by-test}
 use Rattle.circuit.specs.declared.Counts.{Counts}
 use Rattle.circuit.specs.Refusal.{refusal}
-use Rattle.circuit.specs.Table.{top, ceilingTests, tableLength, kinds, Bounded}
+use Rattle.circuit.specs.Table.{top, ceilingTests, tableLength, kinds}
+use Rattle.circuit.specs.RulesInCode.{Bounded}
 use Rattle.text.specs.Part.{got}
 use Rattle.text.specs.Outcome.{accepted, refused, onward, leaves}
 use Rattle.text.specs.Text.{readBody, header, countsOf, headerTests, readText}

@@ -10,7 +10,8 @@ use lib.ListN.{getD}
 use Rattle.three.proofs.Lists.{by-test}
 use Rattle.circuit.specs.declared.Counts.{Counts}
 use Rattle.circuit.specs.Refusal.{Test, _or_, refusal}
-use Rattle.circuit.specs.Table.{variables, ceilingTests, Kind, input, latch, lamp, gate, rowTests, Bounded}
+use Rattle.circuit.specs.Table.{variables, ceilingTests, Kind, input, latch, lamp, gate, rowTests}
+use Rattle.circuit.specs.RulesInCode.{Bounded}
 use Rattle.circuit.proofs.Refusals.{stops, past, none}
 use Rattle.reader.specs.declared.ReadLine.{ReadLine}
 use Rattle.text.specs.Text.{fits, owns, words, lineTests, countsOf, headerTests}

@@ -6,7 +6,8 @@ use Prim.Native.Nat.{ℕ, zero, suc, _+_, _*_, _-_, _≤_, _<_}
 use lib.ListN.{length, getD, take, drop}
 use lib.Seq.{sets}
 use Rattle.circuit.specs.declared.Counts.{Counts}
-use Rattle.circuit.specs.Table.{top, Kind, latch, lamp, gate, several, kinds, Bounded}
+use Rattle.circuit.specs.Table.{top, Kind, latch, lamp, gate, several, kinds}
+use Rattle.circuit.specs.RulesInCode.{Bounded}
 use Rattle.reader.specs.declared.ReadNumber.{ReadNumber}
 use Rattle.reader.specs.declared.ReadNumber.the-variants.{Value, NoNumber}
 use Rattle.reader.specs.declared.InLine.{InLine}

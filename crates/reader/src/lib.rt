@@ -12,7 +12,8 @@ ghost use mathlib.Core.List.{List, [], _∷_};
 ghost use lib.Seq.{sets};
 ghost use Rattle.three.specs.Lists.{over};
 ghost use Rattle.circuit.specs.Refusal.{refusal};
-ghost use Rattle.circuit.specs.Table.{top, input, latch, lamp, gate, several, kinds, Bounded};
+ghost use Rattle.circuit.specs.Table.{top, input, latch, lamp, gate, several, kinds};
+ghost use Rattle.circuit.specs.RulesInCode.{Bounded};
 ghost use Rattle.text.specs.Decimal.{mayGrow, readNumber};
 ghost use Rattle.text.specs.Line.{splitLine};
 ghost use Rattle.text.specs.Text.{lineTests, ends, readBody, header as firstLine, countsOf, headerTests};
@@ -548,7 +549,7 @@ pub fn read(text: &[u8], table: &mut [u16]) -> ReadAnswer
         return refused(judgement.number);
     }
     let counts = judgement.counts;
-    if table.len() < circuit::table_length(counts) {
+    if table.len() < table::table_length(counts) {
         return refused(10);
     }
     fill(text, judgement.body, counts, table);

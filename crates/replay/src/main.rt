@@ -142,7 +142,7 @@ fn show_tick(
     next: &mut [u8],
     lamps: &mut [u8],
 ) {
-    let number = circuit::tick(counts, table, state, switches, next, lamps);
+    let number = tick::tick(counts, table, state, switches, next, lamps);
     say_number(b"tick number ", number as usize);
     say_bytes(b"; next", next);
     say_bytes(b"; lamps", lamps);

@@ -10,8 +10,9 @@ use Rattle.three.specs.Record.{bytesFor, unpack}
 use Rattle.circuit.specs.declared.Counts.{Counts}
 use Rattle.circuit.specs.Circuit.{Circuit}
 use Rattle.circuit.specs.Refusal.{refusal}
-use Rattle.circuit.specs.Table.{tableLength, circuitOf, Bounded}
-use Rattle.circuit.specs.Tick.{circuitTests}
+use Rattle.circuit.specs.Table.{tableLength, circuitOf}
+use Rattle.circuit.specs.RulesInCode.{Bounded}
+use Rattle.circuit.specs.Table.{circuitTests}
 use Rattle.circuit.proofs.Beyond.{circuit-front}
 use Rattle.text.specs.Outcome.{Outcome, accepted, refused, numberOf, leaves}
 use Rattle.text.specs.Text.{Content, readText}
@@ -23,11 +24,11 @@ use Rattle.text.proofs.Tables.{taken}
 use Rattle.text.proofs.RoundTrip.{Carries, read-carries}
 use Rattle.writer.proofs.Putting.{put-over}
 use Rattle.text.proofs.Numbers.{read-numbered}
-use Rattle.run.specs.declared.RunAnswer.{RunAnswer}
-use Rattle.run.specs.Run.{run}
-use Rattle.run.specs.Call.{roomIn, Given, refusedBy, circuitIn, outcomeIn, Runs}
+use Rattle.cubes.specs.declared.RunAnswer.{RunAnswer}
+use Rattle.cubes.specs.Run.{run}
+use Rattle.cubes.specs.Call.{roomIn, Given, refusedBy, circuitIn, outcomeIn, Runs}
 use Rattle.run.proofs.Refusing.{run-passes}
-use Rattle.run.proofs.Promising.{outcome-is, verdict-is, settled-is, count-is, only-full}
+use Rattle.cubes.proofs.Promising.{outcome-is, verdict-is, settled-is, count-is, only-full}
 use Rattle.report.specs.declared.Row.{Row}
 use Rattle.report.specs.Report.{rows, closing, refusing, closedReport, ended, runReport, reported, reportOf, Reported}
 

@@ -13,7 +13,7 @@ use Rattle.text.specs.Decimal.{decimal}
 use Rattle.text.specs.Outcome.{Outcome, accepted, refused}
 use Rattle.text.specs.Text.{Content, readText}
 use Rattle.text.specs.Bench.{bytes}
-use Rattle.run.specs.Run.{cubeAt, Outcome as Ending, closed, full, run, verdict, settled}
+use Rattle.cubes.specs.Run.{cubeAt, Outcome as Ending, closed, full, run, verdict, settled}
 use Rattle.report.specs.declared.Row.{Row}
 
 -- a name and its number

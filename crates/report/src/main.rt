@@ -2,7 +2,7 @@
 use circuit::Counts;
 use libc::STDIN_FILENO;
 use libc::STDOUT_FILENO;
-use run::RunAnswer;
+use cubes::RunAnswer;
 ghost use mathlib.Core.List.{_++_};
 ghost use Prim.Native.Nat.{_+_, _*_, _≤_};
 ghost use lib.ListN.{length};

@@ -12,63 +12,20 @@ use Rattle.three.specs.Record.{bytesFor, pack, unpack}
 use Rattle.circuit.specs.declared.Counts.{Counts}
 use Rattle.circuit.specs.Circuit.{Circuit}
 use Rattle.circuit.specs.Refusal.{refusal}
-use Rattle.circuit.specs.Table.{circuitOf, Legal}
+use Rattle.circuit.specs.Table.{circuitOf}
+use Rattle.circuit.specs.RulesInCode.{Legal}
 use Rattle.circuit.proofs.Refusals.{refused-old, accepted-new}
-use Rattle.run.specs.declared.Chain.{Chain}
-use Rattle.run.specs.Run.{lampsIn, cubeAt, Outcome, closed, full, run, merge, verdict, settled}
-use Rattle.run.specs.Bytes.{cubeIn, packedCubes}
-use Rattle.run.specs.Call.{roomIn, storedCubes, isClosed, backTo, outcomeNumber, Chained, Judgeable, Judgement, runTests, Given, refusedBy, circuitIn, outcomeIn, cubesIn, backIn, verdictFields, settledFields, Runs}
-use Rattle.run.proofs.Steps.{found, Ran, stays, closes, ran}
-use Rattle.run.proofs.Storing.{records, records-sized, stored-cube, stored-sound}
-use Rattle.run.proofs.Chaining.{cubes-sized}
-use Rattle.run.proofs.Merging.{length-over}
-
--- ---- outcomes
-
-pub closed-is : (room : ℕ) (o : Outcome) → isClosed o ≡ true → o ≡ closed (storedCubes room o) (backTo o)
-unfolding isClosed storedCubes backTo
-closed-is room (closed n j) e = refl
-closed-is room full e = absurd (false≢true e)
-
-full-is : (o : Outcome) → isClosed o ≡ false → (15 ≡ outcomeNumber o) × (0 ≡ backTo o)
-unfolding isClosed outcomeNumber backTo
-full-is (closed n j) e = absurd (true≢false e)
-full-is full e = (refl, refl)
-
-closed-number : (o : Outcome) → isClosed o ≡ true → 0 ≡ outcomeNumber o
-unfolding isClosed outcomeNumber
-closed-number (closed n j) e = refl
-closed-number full e = absurd (false≢true e)
-
--- a closed run goes back to one of its cubes, and its cubes have room
-module _ (c : Circuit) (w : ℕ) where
-  ran-within : {room n j : ℕ} → Ran c w room (closed n j) → (j < n) × (n ≤ room)
-  ran-within (stays past) = (ran-within past .0, omega (arith, ran-within past .1))
-  ran-within (closes past l) = (found l .0, omega arith)
-
-  pub closed-within : (room : ℕ) → isClosed (run c w room) ≡ true → (backTo (run c w room) < storedCubes room (run c w room)) × (storedCubes room (run c w room) ≤ room)
-  unfolding isClosed storedCubes backTo
-  closed-within room e = go (run c w room) (ran c w room) e
-    where
-      go : (o : Outcome) → Ran c w room o → isClosed o ≡ true → (backTo o < storedCubes room o) × (storedCubes room o ≤ room)
-      go (closed n j) r h = ran-within r
-      go full r h = absurd (false≢true h)
-
--- ---- verdict and settled record depend on the first n cubes alone
-
-merge-same : (f f′ : ℕ → Cube) (base more : ℕ) → ((k : ℕ) → k ≤ base + more → f k ≡ f′ k) → merge f base more ≡ merge f′ base more
-unfolding merge
-merge-same f f′ base zero same = same base (omega arith)
-merge-same f f′ base (suc more) same = ap₂ merged (merge-same f f′ base more (λ k h. same k (omega arith))) (same (base + suc more) (omega arith))
-
-module _ (f f′ : ℕ → Cube) (n : ℕ) (same : (k : ℕ) → k < n → f k ≡ f′ k) where
-  verdict-same : (c : Circuit) → 1 ≤ n → verdict c f n ≡ verdict c f′ n
-  unfolding verdict
-  verdict-same c some = merge-same _ _ 0 (n - 1) (λ k h. ap (lampsIn c) (same k (omega arith)))
-
-  settled-same : (j : ℕ) → j < n → settled f n j ≡ settled f′ n j
-  unfolding settled
-  settled-same j h = merge-same f f′ j (n - 1 - j) (λ k l. same k (omega arith))
+use Rattle.chain.specs.declared.Chain.{Chain}
+use Rattle.cubes.specs.Run.{lampsIn, cubeAt, Outcome, closed, full, run, merge, verdict, settled}
+use Rattle.cubes.specs.Call.{cubeIn, packedCubes}
+use Rattle.cubes.specs.Call.{roomIn, storedCubes, backTo, outcomeNumber, runTests, Given, refusedBy, circuitIn, outcomeIn, cubesIn, backIn, verdictFields, settledFields, Runs}
+use Rattle.cubes.specs.OutcomesInCode.{isClosed}
+use Rattle.chain.specs.ChainInCode.{Chained}
+use Rattle.judge.specs.JudgeInCode.{Judgeable, Judgement}
+use Rattle.cubes.proofs.Steps.{found, Ran, stays, closes, ran}
+use Rattle.cubes.proofs.Storing.{records, records-sized, stored-cube, stored-sound}
+use Rattle.cubes.proofs.Buffered.{cubes-sized, closed-within, cube-in, full-is, verdict-same, settled-same, closed-number}
+use Rattle.cubes.proofs.Merging.{length-over}
 
 -- ---- the cubes in the buffer
 
@@ -77,20 +34,14 @@ module _ (c : Counts) (words : List ℕ) (w : ℕ) (buffer : List ℕ) where
   circuit = circuitOf c words
 
   module _ (n : ℕ) (cubes : List ℕ) (fills : cubes ≡ over (packedCubes circuit w n) buffer) where
-    pub cube-in : (k : ℕ) → k < n → cubeIn (c .latches) cubes k ≡ cubeAt circuit w k
-    unfolding cubeIn packedCubes records
-    cube-in k h =
-        ap (λ (l : List ℕ). unpack (c .latches) (drop (k * bytesFor (c .latches)) l)) fills
-        ∙ stored-cube (c .latches) (cubeAt circuit w) (cubes-sized c words w buffer) buffer n k h
-
     cubes-judgeable : Legal c words → 1 ≤ n → n * bytesFor (c .latches) ≤ length buffer → Judgeable c words (bytesFor (c .latches)) n cubes
     unfolding packedCubes records
     cubes-judgeable legal some room = record {
       legal = legal;
       size = refl;
       some = some;
-      fits = rw (fills, length-over (records (cubeAt circuit w) n) buffer (rw (records-sized (c .latches) (cubeAt circuit w) (cubes-sized c words w buffer) n) room)) room;
-      cube = λ k h. rw fills (stored-sound (c .latches) (cubeAt circuit w) (cubes-sized c words w buffer) buffer n k h room);
+      fits = rw (fills, length-over (records (cubeAt circuit w) n) buffer (rw (records-sized (c .latches) (cubeAt circuit w) (cubes-sized c words w) n) room)) room;
+      cube = λ k h. rw fills (stored-sound (c .latches) (cubeAt circuit w) (cubes-sized c words w) buffer n k h room);
     }
 
   module _ (r : Chain) (cubes : List ℕ) (chain : Chained c words w buffer r cubes) (is-closed : r .closed ≡ true) where

@@ -7,11 +7,12 @@ use borrow.Author.Tests.{le-leb, lt-leb, leb-true}
 use Rattle.three.specs.Record.{bytesFor}
 use Rattle.circuit.specs.declared.Counts.{Counts}
 use Rattle.circuit.specs.Refusal.{Test, refusal}
-use Rattle.circuit.specs.Table.{ceilingTests, Legal}
-use Rattle.circuit.specs.Tick.{circuitTests}
+use Rattle.circuit.specs.Table.{ceilingTests}
+use Rattle.circuit.specs.RulesInCode.{Legal}
+use Rattle.circuit.specs.Table.{circuitTests}
 use Rattle.circuit.proofs.Refusals.{Numbered, stops, past, none, passes, passed-append, refuses-whole, append-past}
-use Rattle.circuit.proofs.Ticking.{circuit-numbered, legal-passed}
-use Rattle.run.specs.Call.{runTests, resultTests}
+use Rattle.circuit.proofs.Legality.{circuit-numbered, legal-passed}
+use Rattle.cubes.specs.Call.{runTests, resultTests}
 
 module _ (c : Counts) (table : List ℕ) (w n v s : ℕ) where
   abbrev number : ℕ

@@ -14,8 +14,9 @@ use Rattle.three.specs.Lists.{tabulate}
 use Rattle.three.proofs.Lists.{and-parts, by-test, tabulate-getD}
 use Rattle.circuit.specs.declared.Counts.{Counts}
 use Rattle.circuit.specs.Refusal.{refusal, Passed}
-use Rattle.circuit.specs.Table.{variables, top, tableLength, Kind, input, latch, lamp, gate, kinds, width, rowTests, tableTests, Bounded}
-use Rattle.circuit.specs.Tick.{circuitTests}
+use Rattle.circuit.specs.Table.{variables, top, tableLength, Kind, input, latch, lamp, gate, kinds, width, rowTests, tableTests}
+use Rattle.circuit.specs.RulesInCode.{Bounded}
+use Rattle.circuit.specs.Table.{circuitTests}
 use Rattle.text.specs.Part.{got, ill}
 use Rattle.text.specs.Line.{lineText, strip}
 use Rattle.text.specs.Outcome.{accepted, onward}

@@ -8,7 +8,7 @@ use Rattle.three.specs.Lists.{over}
 use Rattle.circuit.specs.declared.Counts.{Counts}
 use Rattle.circuit.specs.Refusal.{Test, _or_, refusal, accepted}
 use Rattle.circuit.specs.Table.{tableLength}
-use Rattle.circuit.specs.Tick.{circuitTests}
+use Rattle.circuit.specs.Table.{circuitTests}
 use Rattle.text.specs.Outcome.{Outcome, numberOf, further, leaves}
 use Rattle.text.specs.Text.{Content, readText, writeText}
 

@@ -7,7 +7,7 @@ use native.Mathlib.Omega.{arith}
 use lib.ListN.{length}
 use Rattle.circuit.specs.declared.Counts.{Counts}
 use Rattle.circuit.specs.Refusal.{refusal}
-use Rattle.circuit.specs.Tick.{circuitTests}
+use Rattle.circuit.specs.Table.{circuitTests}
 use Rattle.text.specs.Text.{writeText}
 use Rattle.text.specs.Calls.{Writing}
 use Rattle.writer.specs.Written.{Put, Ready}

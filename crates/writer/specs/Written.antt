@@ -5,7 +5,8 @@ use Prim.Native.Nat.{ℕ, zero, suc, _+_, _*_, _≤_, _<_}
 use lib.ListN.{length, drop}
 use lib.Seq.{sets}
 use Rattle.circuit.specs.declared.Counts.{Counts}
-use Rattle.circuit.specs.Table.{tableLength, several, width, Bounded}
+use Rattle.circuit.specs.Table.{tableLength, several, width}
+use Rattle.circuit.specs.RulesInCode.{Bounded}
 use Rattle.writer.specs.declared.LineNumbers.{LineNumbers}
 use Rattle.text.specs.Coded.{coded}
 use Rattle.text.specs.Text.{numbers, writeBody, writeText}

@@ -9,7 +9,8 @@ ghost use mathlib.Core.Path.{_≡_};
 ghost use Prim.Native.Nat.{_≤_, _<_, _+_, _*_};
 ghost use lib.ListN.{length};
 ghost use mathlib.Core.List.{[], _∷_, _++_};
-ghost use Rattle.circuit.specs.Table.{Bounded, width};
+ghost use Rattle.circuit.specs.RulesInCode.{Bounded};
+ghost use Rattle.circuit.specs.Table.{width};
 ghost use Rattle.text.specs.Decimal.{decimal};
 ghost use Rattle.text.specs.Line.{lineText};
 ghost use Rattle.text.specs.Text.{magic, headNumbers, writeText};
@@ -354,7 +355,7 @@ pub struct WriteAnswer {
 pub fn write(counts: Counts, table: &[u16], text: &mut [u8]) -> WriteAnswer
     ensures { λ r. ⌜ Writing counts (now (table .entry)) (now (text .entry)) (r .number) (r .bytes) (now (text .exit)) ⌝ }
 {
-    let number = circuit::circuit_refusal(counts, table);
+    let number = table::circuit_refusal(counts, table);
     if number != 0 {
         return WriteAnswer {
             number: number,

@@ -3,7 +3,7 @@ use mathlib.Core.Path.{sym, _∙_}
 use borrow.Author.Tests.{not-true, not-false}
 use Rattle.run.proofs.Refusing.{accepted-run}
 use Rattle.run.proofs.Calling.{run-refused, run-full, run-closed, judgeable, back-below}
-use Rattle.run.proofs.Promising.{promises}
+use Rattle.cubes.proofs.Promising.{promises}
 use borrow.Author.Needs.{needs}
 use Rattle.run.proofs.run.Statement.{statement}
 use Rattle.run.proofs.run.Tie as tie

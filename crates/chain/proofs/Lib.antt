@@ -1,0 +1,4 @@
+pub mod Pairs
+pub mod Keeping
+pub mod Chaining
+pub mod Following

@@ -1,0 +1,39 @@
+-- `run::make_chain` meets its contract: cube 0 is stored, and followed. Assumes nothing.
+use mathlib.Core.Path.{refl}
+use Rattle.chain.proofs.Following.{start-followable, chained-from}
+use borrow.Author.Needs.{needs}
+use Rattle.chain.proofs.make_chain.Statement.{statement}
+use Rattle.chain.proofs.make_chain.Tie as tie
+
+record-length-requires : tie.Need-record-length-requires
+record-length-requires c κs = search needs
+
+store-start-requires : tie.Need-store-start-requires
+store-start-requires c κs = search needs
+
+div-follow : tie.Need-div-follow
+div-follow c = search needs
+
+follow-requires : tie.Need-follow-requires
+follow-requires c κs =
+    let pre = c .before .before .before .before .before .before .before .before .pre in
+    start-followable _ _ 0 _ _ (pre .1) (c .before .before .before .store-start .ensures) (pre .0) (pre .2) _ _ (c .before .before .before .before .before .record-length .ensures) refl
+
+same-length : tie.Need-same-length
+same-length c = search needs
+
+returns : tie.Need-returns
+returns c =
+    let pre = c .before .before .before .before .before .before .before .before .before .before .before .pre in
+    chained-from _ _ _ _ _ (pre .1) (c .before .before .before .before .before .before .store-start .ensures) _ _ (c .before .before .follow .ensures)
+
+pub make-chain-spec : {M : Type 1} → statement M
+make-chain-spec =
+    tie.close
+    (tie.spec
+    record-length-requires
+    store-start-requires
+    div-follow
+    follow-requires
+    same-length
+    returns)

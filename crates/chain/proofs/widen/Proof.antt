@@ -1,0 +1,69 @@
+-- `run::widen` meets its contract: the bytes are widened in turn. Assumes nothing.
+use Prim.Native.Nat.{_-_}
+use lib.ListN.{drop}
+use Rattle.three.proofs.Lists.{Stored, stored-first, stored-last}
+use Rattle.chain.specs.ChainInCode.{widenedBytes}
+use Rattle.chain.proofs.Keeping.{widen-next}
+use native.Mathlib.Omega.{arith}
+use Rattle.chain.proofs.widen.Statement.{statement}
+use Rattle.chain.proofs.widen.Tie as tie
+
+abbrev Inv-loop : tie.InvT-loop
+Inv-loop cubes at b len wider₀ i₀ wider i = Stored wider₀ 0 (widenedBytes len wider₀ (drop at cubes) b) len wider i
+
+abbrev μ-loop : tie.MeasureT-loop
+μ-loop cubes at b len wider₀ i₀ wider i = len - i
+
+loop-holds : tie.Need-loop-holds Inv-loop μ-loop
+loop-holds c = stored-first _ _ _ _
+
+array-read-wider : tie.Need-array-read-wider Inv-loop μ-loop
+array-read-wider c = omega arith
+
+add-differing : tie.Need-add-differing Inv-loop μ-loop
+add-differing c = omega arith
+
+shared-slice-read-differing : tie.Need-shared-slice-read-differing Inv-loop μ-loop
+shared-slice-read-differing c = omega arith
+
+shared-slice-read-differing-2 : tie.Need-shared-slice-read-differing-2 Inv-loop μ-loop
+shared-slice-read-differing-2 c = omega arith
+
+differing-requires : tie.Need-differing-requires Inv-loop μ-loop
+differing-requires c κs = omega arith
+
+array-write-wider : tie.Need-array-write-wider Inv-loop μ-loop
+array-write-wider c = omega arith
+
+add-i : tie.Need-add-i Inv-loop μ-loop
+add-i c = omega arith
+
+loop-less : tie.Need-loop-less Inv-loop μ-loop
+loop-less c = omega arith
+
+loop-again : tie.Need-loop-again Inv-loop μ-loop
+loop-again c =
+    let turn = c .before .before .before in
+    let a = c .before .before .before .before .before .before .before .args in
+    widen-next (a .len) (a .held) (a .cubes .now) (a .at) (a .b .now) (omega arith) _ _ _ (turn .before .loop .inv) (turn .loop-test .taken) (c .differing .ensures)
+
+returns : tie.Need-returns Inv-loop μ-loop
+returns c = stored-last _ _ _ _ _ _ (c .before .loop .inv) (c .loop-test .left)
+
+pub widen-spec : {M : Type 1} → statement M
+widen-spec =
+    tie.close
+    (tie.spec
+    Inv-loop
+    μ-loop
+    loop-holds
+    array-read-wider
+    add-differing
+    shared-slice-read-differing
+    shared-slice-read-differing-2
+    differing-requires
+    array-write-wider
+    add-i
+    loop-less
+    loop-again
+    returns)

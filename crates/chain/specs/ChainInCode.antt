@@ -1,0 +1,65 @@
+-- How the code keeps a run: the held latches as pairs 11 of a record, one cube more, the chain; nothing here has to be believed. Assumes nothing.
+use mathlib.Core.Path.{_≡_}
+use mathlib.Core.Bool.{Bool, true, false}
+use mathlib.Core.List.{List}
+use Prim.Native.Nat.{ℕ, _+_, _*_, _-_, _/_, _≤_}
+use lib.Bits.{bitAnd, bitOr, bitXor}
+use lib.ListN.{length, getD, drop}
+use lib.Seq.{paste}
+use Rattle.three.specs.Lists.{tabulate, over}
+use Rattle.three.specs.Record.{bytesFor, pack}
+use Rattle.circuit.specs.declared.Counts.{Counts}
+use Rattle.chain.specs.declared.Progress.{Progress}
+use Rattle.circuit.specs.Table.{circuitOf}
+use Rattle.circuit.specs.RulesInCode.{Legal}
+use Rattle.chain.specs.declared.Chain.{Chain}
+use Rattle.cubes.specs.Run.{closed, run}
+use Rattle.cubes.specs.Call.{packedCubes, roomIn, storedCubes, backTo}
+use Rattle.stored.specs.CubesInCode.{startFields, keptBytes}
+use Rattle.cubes.specs.OutcomesInCode.{isClosed}
+
+-- a held latch is the pair 11
+unfoldable pub heldPair : Bool → ℕ
+heldPair true = 3
+heldPair false = 0
+
+unfoldable pub heldByte : List Bool → ℕ → ℕ
+heldByte held k =
+    64 * heldPair (getD held (4 * k) false) + 16 * heldPair (getD held (4 * k + 1) false)
+    + 4 * heldPair (getD held (4 * k + 2) false) + heldPair (getD held (4 * k + 3) false)
+
+-- the pairs that differ in two bytes, as pairs 11
+unfoldable pub differingByte : ℕ → ℕ → ℕ
+differingByte x y = let z : ℕ = bitXor x y in 3 * bitAnd (bitOr z (z / 2)) 85
+
+-- the held latches of len bytes, with those added whose value in a and b differs
+unfoldable pub widenedBytes : ℕ → List ℕ → List ℕ → List ℕ → List ℕ
+widenedBytes len held a b = tabulate len (λ i. bitOr (getD held i 0) (differingByte (getD a i 0) (getD b i 0)))
+
+-- the held bytes once b is stored, due (true) or not
+unfoldable pub heldAfter : Bool → ℕ → List ℕ → List ℕ → List ℕ → List ℕ
+heldAfter true len held a b = paste held 0 (widenedBytes len held a b) len
+heldAfter false len held a b = held
+
+-- One cube more: the count, the held latches, and the buffer with b, held latches set to X, behind the cubes
+pub record Advanced (d : Bool) (len : ℕ) (before : Progress) (cubes b : List ℕ) (after : Progress) (cubes′ : List ℕ) : Type 0 where
+  pub counts : after .count ≡ before .count + 1
+  pub holds : after .held ≡ heldAfter d len (before .held) (drop (before .count * len - len) cubes) b
+  pub stores : cubes′ ≡ paste cubes (before .count * len) (keptBytes len (after .held) b) len
+
+-- a chain that is made in a buffer: what it answers, and the cubes in front of what stood there
+pub record Chained (c : Counts) (words : List ℕ) (w : ℕ) (buffer : List ℕ) (r : Chain) (cubes : List ℕ) : Type 0 where
+  pub closes : r .closed ≡ isClosed (run (circuitOf c words) w (roomIn c buffer))
+  pub counts : r .count ≡ storedCubes (roomIn c buffer) (run (circuitOf c words) w (roomIn c buffer))
+  pub goes-back : r .back ≡ backTo (run (circuitOf c words) w (roomIn c buffer))
+  pub some : 1 ≤ r .count
+  pub fills : cubes ≡ over (packedCubes (circuitOf c words) w (r .count)) buffer
+
+-- cube 0 stands in a buffer of a size that 13 does not refuse
+pub record Followable (c : Counts) (words : List ℕ) (len room : ℕ) (cubes : List ℕ) : Type 0 where
+  pub legal : Legal c words
+  pub size : len ≡ bytesFor (c .latches)
+  pub has-room : room ≡ roomIn c cubes
+  pub one : bytesFor (c .latches) ≤ length cubes
+  pub small : length cubes ≤ 65536
+  pub begun : cubes ≡ over (pack (startFields words (c .latches))) cubes

@@ -1,0 +1,144 @@
+// The cubes of a run, its n and its j: widening, closing, room (document 01, Run).
+use circuit::Counts;
+ghost use mathlib.Core.Path.{_≡_};
+ghost use mathlib.Core.Bool.{true};
+ghost use Prim.Native.Nat.{_+_, _*_, _-_, _<_, _≤_};
+ghost use lib.ListN.{length, drop};
+ghost use lib.Seq.{paste};
+ghost use Rattle.three.specs.Value.{unknown};
+ghost use Rattle.three.specs.Record.{bytesFor};
+ghost use Rattle.circuit.specs.RulesInCode.{Legal};
+ghost use Rattle.cubes.specs.Run.{due as isDue};
+ghost use Rattle.stored.specs.CubesInCode.{first};
+ghost use Rattle.chain.specs.ChainInCode.{differingByte, heldAfter, widenedBytes, Advanced, Followable, Chained};
+
+// "If w is not 0 and divides k"
+fn due(w: usize, k: usize) -> bool
+    ensures { λ r. ⌜ r ≡ isDue w k ⌝ }
+{
+    if w == 0 {
+        return false;
+    }
+    k % w == 0
+}
+
+// The pairs of a and b that differ, as pairs 11.
+fn differing(a: u8, b: u8) -> u8
+    ensures { λ r. ⌜ r ≡ differingByte a b ⌝ }
+{
+    let z = a ^ b;
+    3 * ((z | (z / 2)) & 85)
+}
+
+// Holds every latch too whose value in the cube at byte `at` and in b differs.
+fn widen(held: [u8; 128], cubes: &[u8], at: usize, b: &[u8], len: usize) -> [u8; 128]
+    requires { ⌜ (len ≤ 128) × (at + len ≤ length (now cubes)) × (len ≤ length (now b)) ⌝ }
+    ensures { λ r. ⌜ r ≡ paste held 0 (widenedBytes len held (drop at (now (cubes .entry))) (now (b .entry))) len ⌝ }
+{
+    let mut wider = held;
+    for i in 0..len {
+        wider[i] = wider[i] | differing(cubes[at + i], b[i]);
+    }
+    wider
+}
+
+// Which latches are held once b is stored, due or not.
+fn held_after(d: bool, held: [u8; 128], cubes: &[u8], at: usize, b: &[u8], len: usize) -> [u8; 128]
+    requires { ⌜ (len ≤ 128) × (at + len ≤ length (now cubes)) × (len ≤ length (now b)) ⌝ }
+    ensures { λ r. ⌜ r ≡ heldAfter d len held (drop at (now (cubes .entry))) (now (b .entry)) ⌝ }
+{
+    if !d {
+        return held;
+    }
+    widen(held, cubes, at, b, len)
+}
+
+// "how many cubes are stored, which latches are held unknown"
+pub struct Progress {
+    pub count: usize,
+    pub held: [u8; 128],
+}
+
+impl Progress {
+    // Stores b as the next cube, widened first where it is due.
+    fn advance(mut self, cubes: &mut [u8], len: usize, w: usize, b: &[u8]) -> Self
+        requires { ⌜ (1 ≤ self .count) × (self .count < 65536) × (len ≤ 128) × (self .count * len + len ≤ length (now cubes)) × (len ≤ length (now b)) ⌝ }
+        ensures { λ r. ⌜ Advanced (isDue w (self .count)) len self (now (cubes .entry)) (now (b .entry)) r (now (cubes .exit)) ⌝ }
+    {
+        let k = self.count;
+        let at = k * len;
+        let held = self.held;
+        let wider = held_after(due(w, k), held, cubes, at - len, b, len);
+        self.held = wider;
+        stored::store_kept(b, wider, len, cubes, at);
+        self.count = k + 1;
+        self
+    }
+}
+
+// Closed with `count` cubes back to number `back`, or no room for a cube more.
+pub struct Chain {
+    pub closed: bool,
+    pub count: usize,
+    pub back: usize,
+}
+
+// Goes on from cube 0, which stands in the buffer, to the cube that falls inside a stored one, or as far as there is room.
+fn follow(
+    counts: Counts,
+    table: &[u16],
+    w: usize,
+    len: usize,
+    room: usize,
+    cubes: &mut [u8],
+) -> Chain
+    requires { ⌜ Followable counts (now table) len room (now cubes) ⌝ }
+    ensures { λ r. ⌜ Chained counts (now (table .entry)) w (now (cubes .entry)) r (now (cubes .exit)) ⌝ }
+{
+    let mut values = [0u8; 4096];
+    pass::put_variable(&mut values, 0, 1);
+    let mut b = [0u8; 128];
+    let mut progress = Progress {
+        count: 1,
+        held: [0u8; 128],
+    };
+    loop {
+        let count = progress.count;
+        let held = progress.held;
+        stored::reach(
+            counts,
+            table,
+            cubes,
+            (count - 1) * len,
+            held,
+            &mut values,
+            &mut b,
+        );
+        let back = stored::search(cubes, len, count, &b);
+        if back < count {
+            return Chain {
+                closed: true,
+                count,
+                back,
+            };
+        }
+        if count == room {
+            return Chain {
+                closed: false,
+                count,
+                back: 0,
+            };
+        }
+        progress = progress.advance(cubes, len, w, &b);
+    }
+}
+
+// The cubes of a run, its n and its j.
+pub fn make_chain(counts: Counts, table: &[u16], w: usize, cubes: &mut [u8]) -> Chain
+    requires { ⌜ Legal counts (now table) × (bytesFor (counts .latches) ≤ length (now cubes)) × (length (now cubes) ≤ 65536) ⌝ }
+    ensures { λ r. ⌜ Chained counts (now (table .entry)) w (now (cubes .entry)) r (now (cubes .exit)) ⌝ }
+{
+    let len = three::record_length(counts.latches);
+    stored::store_start(table, counts.latches, cubes);
+    follow(counts, table, w, len, cubes.len() / len, cubes)
+}

@@ -1,0 +1,135 @@
+-- Cubes that no execution leaves, for any map that says which cube follows which, and closed chains as a case of them.
+-- A tick is sound, so the state goes from each cube into the one that follows. Assumes nothing.
+use mathlib.Core.Path.{_≡_, refl, sym, ap, _∙_}
+use mathlib.Core.Bool.{Bool, true, false}
+use mathlib.Core.List.{List}
+use Prim.Native.Nat.{ℕ, zero, suc, _-_, _≤_, _<_}
+use native.Mathlib.Decide.{decLt}
+use native.Mathlib.Omega.{arith}
+use lib.ListN.{length, getD, replicate, length-map}
+use Rattle.three.specs.Lists.{tabulate, empty, also}
+use Rattle.three.specs.Value.{unknown, known, boolean}
+use Rattle.three.specs.Cube.{Cube, Holds, any, off, on, _∋_}
+use Rattle.three.proofs.Lists.{each-getD}
+use Rattle.circuit.specs.Circuit.{Circuit, next, lamps}
+use Rattle.circuit.proofs.Sound.{next-sound, lamps-sound}
+use Rattle.cubes.specs.Run.{switchesUnknown, nextCube, lampsIn, start, verdict, settled}
+use Rattle.cubes.specs.OutcomesInCode.{Inside, place}
+use Rattle.cubes.specs.Execution.{settings, stateAfter, lampsAfter}
+use Rattle.cubes.proofs.Wider.{merge-widens}
+use Rattle.cubes.proofs.Places.{place-early, place-late, place-below, place-last, place-next}
+
+-- ---- one tick with all switches X
+
+any-switches : (n : ℕ) (f : ℕ → Bool) → replicate n unknown ∋ tabulate n f
+unfolding tabulate
+any-switches zero f = empty
+any-switches (suc n) f = also any (any-switches n (λ i. f (suc i)))
+
+module _ (c : Circuit) (switches : ℕ → ℕ → Bool) (t : ℕ) {cube : Cube} {state : List Bool} (within : cube ∋ state) where
+  next-within : nextCube c cube ∋ next boolean c (settings c switches t) state
+  unfolding nextCube switchesUnknown settings
+  next-within = next-sound c _ _ _ _ (any-switches (c .inputs) (switches t)) within
+
+  lamps-within : lampsIn c cube ∋ lamps boolean c (settings c switches t) state
+  unfolding lampsIn switchesUnknown settings
+  lamps-within = lamps-sound c _ _ _ _ (any-switches (c .inputs) (switches t)) within
+
+lamps-sized : (c : Circuit) (a : Cube) → length (lampsIn c a) ≡ length (c .lamps)
+unfolding lampsIn lamps
+lamps-sized c a = length-map (c .lamps) _
+
+-- ---- known fields
+
+-- a known field holds its own bit alone
+known-alone : (v : Bool) {b : Bool} → Holds (known v) b → b ≡ v
+unfolding known
+known-alone false off = refl
+known-alone true on = refl
+
+known-at : {cube : Cube} {state : List Bool} → cube ∋ state → (i : ℕ) (v : Bool) → getD cube i unknown ≡ known v → getD state i false ≡ v
+known-at within i v e = known-alone v (rw e at (each-getD within {e = false} any i))
+
+-- ---- covers
+
+-- n cubes in any order: cube number `origin` holds the start, and cube number `follow k` the next state of cube k
+pub record Cover (c : Circuit) (cubes : ℕ → Cube) (n origin : ℕ) (follow : ℕ → ℕ) : Type 0 where
+  pub starts : Inside (start c) (cubes origin)
+  pub starts-below : origin < n
+  pub follows : (k : ℕ) → k < n → Inside (nextCube c (cubes k)) (cubes (follow k))
+  pub follows-below : (k : ℕ) → k < n → follow k < n
+
+-- the number of the cube for tick t: the origin, followed t times
+unfoldable pub visited : ℕ → (ℕ → ℕ) → ℕ → ℕ
+visited origin follow zero = origin
+visited origin follow (suc t) = follow (visited origin follow t)
+
+module _ {c : Circuit} {cubes : ℕ → Cube} {n origin : ℕ} {follow : ℕ → ℕ} (cover : Cover c cubes n origin follow) where
+  pub visited-below : (t : ℕ) → visited origin follow t < n
+  unfolding visited
+  visited-below zero = cover .starts-below
+  visited-below (suc t) = cover .follows-below _ (visited-below t)
+
+  module _ (switches : ℕ → ℕ → Bool) {first : List Bool} (from : start c ∋ first) where
+    pub visited-covers : (t : ℕ) → cubes (visited origin follow t) ∋ stateAfter c switches first t
+    unfolding stateAfter visited
+    visited-covers zero = cover .starts first from
+    visited-covers (suc t) = cover .follows _ (visited-below t) _ (next-within c switches t (visited-covers t))
+
+    verdict-covers : (t : ℕ) → verdict c cubes n ∋ lampsAfter c switches first t
+    unfolding verdict lampsAfter
+    verdict-covers t =
+        merge-widens _ _ (λ k. lamps-sized c (cubes k)) 0 (n - 1) (visited origin follow t) (omega arith)
+        (omega (arith, visited-below t)) (lamps-within c switches t (visited-covers t))
+
+    -- a lamp of known verdict has that value at every tick
+    pub lamp-known : (i : ℕ) (v : Bool) → getD (verdict c cubes n) i unknown ≡ known v → (t : ℕ) → getD (lampsAfter c switches first t) i false ≡ v
+    lamp-known i v e t = known-at (verdict-covers t) i v e
+
+-- ---- closed chains
+
+-- n cubes one after the other: each next state lies in the following cube, that of the last in cube j
+pub record Chain (c : Circuit) (cubes : ℕ → Cube) (n j : ℕ) : Type 0 where
+  pub sized : (k : ℕ) → length (cubes k) ≡ length (c .latches)
+  pub starts : Inside (start c) (cubes 0)
+  pub follows : (k : ℕ) → suc k < n → Inside (nextCube c (cubes k)) (cubes (suc k))
+  pub returns : (k : ℕ) → suc k ≡ n → Inside (nextCube c (cubes k)) (cubes j)
+  pub below : j < n
+
+-- the cube after cube k is the one for tick k + 1
+abbrev onward : ℕ → ℕ → ℕ → ℕ
+onward n j k = place n j (suc k)
+
+visited-place : (n j t : ℕ) → j < n → visited 0 (onward n j) t ≡ place n j t
+unfolding visited
+visited-place n j zero below = sym (place-early n j 0 below (omega arith))
+visited-place n j (suc t) below = ap (onward n j) (visited-place n j t below) ∙ place-next n j t below
+
+module _ {c : Circuit} {cubes : ℕ → Cube} {n j : ℕ} (chain : Chain c cubes n j) where
+  pub chain-cover : Cover c cubes n 0 (onward n j)
+  chain-cover = record {
+    starts = chain .starts;
+    starts-below = omega arith;
+    follows = λ k h. go k (decLt (suc k) n) h;
+    follows-below = λ k h. place-below n j (suc k) (chain .below);
+  }
+    where
+      go : (k : ℕ) → Dec (suc k < n) → k < n → Inside (nextCube c (cubes k)) (cubes (onward n j k))
+      go k (yes inner) h = rw (place-early n j (suc k) (chain .below) inner) (chain .follows k inner)
+      go k (no edge) h =
+          let last : suc k ≡ n = omega arith in
+          rw (last, place-last n j (chain .below)) (chain .returns k last)
+
+  module _ (switches : ℕ → ℕ → Bool) {first : List Bool} (from : start c ∋ first) where
+    pub place-covers : (t : ℕ) → cubes (place n j t) ∋ stateAfter c switches first t
+    place-covers t = rw (visited-place n j t (chain .below)) at (visited-covers chain-cover switches from t)
+
+    settled-covers : (t : ℕ) → j ≤ t → settled cubes n j ∋ stateAfter c switches first t
+    unfolding settled
+    settled-covers t late =
+        merge-widens cubes _ (chain .sized) j (n - 1 - j) (place n j t) (omega (arith, place-late n j t late))
+        (omega (arith, place-below n j t (chain .below))) (place-covers t)
+
+    -- a settled latch has its value at every tick from j on
+    pub latch-known : (i : ℕ) (v : Bool) → getD (settled cubes n j) i unknown ≡ known v → (t : ℕ) → j ≤ t → getD (stateAfter c switches first t) i false ≡ v
+    latch-known i v e t late = known-at (settled-covers t late) i v e

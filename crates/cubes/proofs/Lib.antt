@@ -1,0 +1,11 @@
+pub mod Steps
+pub mod Wider
+pub mod Closes
+pub mod Places
+pub mod Cover
+pub mod Promise
+pub mod Storing
+pub mod Merging
+pub mod Buffered
+pub mod Promising
+pub mod Determined

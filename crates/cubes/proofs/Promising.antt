@@ -1,0 +1,140 @@
+-- The promises of the run's contract, over the answers and the bytes that the call leaves. Assumes nothing.
+use mathlib.Core.Path.{_≡_, refl, sym, ap, ap₂, _∙_}
+use mathlib.Core.Bool.{Bool, true}
+use mathlib.Core.List.{List}
+use Prim.Native.Nat.{ℕ, zero, suc, _+_, _*_, _-_, _%_, _<_, _≤_}
+use native.Mathlib.Nat.{mod-lt}
+use native.Mathlib.Omega.{arith}
+use lib.ListN.{length}
+use Rattle.three.specs.Lists.{over}
+use Rattle.three.specs.Cube.{knownFields}
+use Rattle.three.specs.Record.{unpack}
+use Rattle.three.proofs.Lists.{length-tabulate}
+use Rattle.three.proofs.Pack.{unpack-over}
+use Rattle.circuit.specs.declared.Counts.{Counts}
+use Rattle.circuit.specs.Refusal.{accepted}
+use Rattle.circuit.specs.Table.{circuitOf}
+use Rattle.circuit.proofs.Refusals.{accepted-new}
+use Rattle.cubes.specs.declared.RunAnswer.{RunAnswer}
+use Rattle.cubes.specs.Run.{cubeAt, Outcome, closed, full, verdict, settled}
+use Rattle.cubes.specs.Call.{cubeIn, packedCubes, roomIn, storedCubes, outcomeNumber, Given, refusedBy, circuitIn, outcomeIn, cubesIn, backIn, verdictFields, settledFields, Runs}
+use Rattle.cubes.specs.OutcomesInCode.{isClosed}
+use Rattle.cubes.specs.Promise.{Covered, Promises}
+use Rattle.cubes.proofs.Promise.{resets-start, covered-early, covered-late, lamp-judged, latch-settled}
+use Rattle.cubes.proofs.Closes.{run-closes}
+use Rattle.cubes.proofs.Buffered.{cubes-sized, lamps-counted, closed-is, closed-within, cube-in}
+use Rattle.cubes.proofs.Wider.{merge-sized}
+
+-- ---- number 0 says: not refused, and closed
+
+zero-says : (k : ℕ) (o : Outcome) → 0 ≡ accepted k (outcomeNumber o) k → (k ≡ 0) × (isClosed o ≡ true)
+unfolding accepted outcomeNumber isClosed
+zero-says zero (closed n j) e = (refl, refl)
+zero-says zero full e = absurd (omega arith)
+zero-says (suc k) o e = absurd (omega arith)
+
+closed-says : (room : ℕ) (o : Outcome) {n j : ℕ} → o ≡ closed n j → (outcomeNumber o ≡ 0) × (storedCubes room o ≡ n)
+unfolding outcomeNumber storedCubes
+closed-says room o e = (rw e, rw e)
+
+-- and any other number, where nothing is refused before: no room
+number-says : (o : Outcome) {k : ℕ} → k ≡ outcomeNumber o → (k ≡ 0 → ⊥) → (k ≡ 15) × (o ≡ full)
+unfolding outcomeNumber
+number-says (closed n j) e h = absurd (h e)
+number-says full e h = (e, refl)
+
+-- ---- the fields of verdict and settled record
+
+module _ (c : Counts) (words : List ℕ) (w n j : ℕ) where
+  verdict-sized : length (verdict (circuitOf c words) (cubeAt (circuitOf c words) w) n) ≡ c .lamps
+  unfolding verdict
+  verdict-sized = merge-sized _ (c .lamps) (λ k. lamps-counted c words _) 0 (n - 1)
+
+  settled-sized : length (settled (cubeAt (circuitOf c words) w) n j) ≡ c .latches
+  unfolding settled
+  settled-sized = merge-sized _ (c .latches) (cubes-sized c words w) j (n - 1 - j)
+
+-- ---- the promises
+
+module _ (g : Given) (r : RunAnswer) (cubes verdict′ settled′ : List ℕ) (runs : Runs g r cubes verdict′ settled′) where
+  module _ (done : r .number ≡ 0) where
+    says : (refusedBy g ≡ 0) × (isClosed (outcomeIn g) ≡ true)
+    says = zero-says (refusedBy g) (outcomeIn g) (sym done ∙ runs .answers)
+
+    taken : {A : Type 0} (new old : A) → accepted (refusedBy g) new old ≡ new
+    taken new old = sym (accepted-new (refusedBy g) new old (says .0))
+
+    written : {A : Type 0} (new old : A) → accepted (r .number) new old ≡ new
+    written new old = sym (accepted-new (r .number) new old done)
+
+    n-is : r .cubes ≡ cubesIn g
+    n-is = runs .counts ∙ taken _ _
+
+    j-is : r .back ≡ backIn g
+    j-is = runs .goes-back ∙ taken _ _
+
+    pub outcome-is : outcomeIn g ≡ closed (r .cubes) (r .back)
+    unfolding cubesIn backIn
+    outcome-is = closed-is (roomIn (g .counts) (g .cubes)) (outcomeIn g) (says .1) ∙ ap₂ closed (sym n-is) (sym j-is)
+
+    below : r .back < r .cubes
+    unfolding cubesIn backIn outcomeIn
+    below = rw (n-is, j-is) (closed-within (circuitIn g) (g .w) (roomIn (g .counts) (g .cubes)) (says .1) .0)
+
+    cube-is : (k : ℕ) → k < r .cubes → cubeAt (circuitIn g) (g .w) k ≡ cubeIn (g .counts .latches) cubes k
+    unfolding circuitIn
+    cube-is k h =
+        sym (cube-in (g .counts) (g .table) (g .w) (g .cubes) (r .cubes) cubes
+        (runs .fills-cubes ∙ taken _ _ ∙ ap (λ (n : ℕ). over (packedCubes (circuitIn g) (g .w) n) (g .cubes)) (sym n-is)) k h)
+
+    pub verdict-is : unpack (g .counts .lamps) verdict′ ≡ verdict (circuitIn g) (cubeAt (circuitIn g) (g .w)) (r .cubes)
+    unfolding verdictFields circuitIn
+    verdict-is =
+        ap (unpack (g .counts .lamps)) (runs .fills-verdict ∙ written _ _)
+        ∙ unpack-over (g .counts .lamps) (verdictFields g) (g .verdict) (verdict-sized (g .counts) (g .table) (g .w) (cubesIn g) 0)
+        ∙ ap (verdict (circuitIn g) (cubeAt (circuitIn g) (g .w))) (sym n-is)
+
+    pub settled-is : unpack (g .counts .latches) settled′ ≡ settled (cubeAt (circuitIn g) (g .w)) (r .cubes) (r .back)
+    unfolding settledFields circuitIn
+    settled-is =
+        ap (unpack (g .counts .latches)) (runs .fills-settled ∙ written _ _)
+        ∙ unpack-over (g .counts .latches) (settledFields g) (g .settled) (settled-sized (g .counts) (g .table) (g .w) (cubesIn g) (backIn g))
+        ∙ ap₂ (settled (cubeAt (circuitIn g) (g .w))) (sym n-is) (sym j-is)
+
+    pub count-is : r .settled ≡ knownFields (settled (cubeAt (circuitIn g) (g .w)) (r .cubes) (r .back))
+    unfolding settledFields
+    count-is = runs .settles ∙ written _ _ ∙ ap knownFields (ap₂ (settled (cubeAt (circuitIn g) (g .w))) (sym n-is) (sym j-is))
+
+    run-covers : (switches : ℕ → ℕ → Bool) → Covered g r cubes verdict′ settled′ switches
+    unfolding outcomeIn
+    run-covers switches =
+        let from = resets-start (circuitIn g) in
+        let room : ℕ = roomIn (g .counts) (g .cubes) in
+        record {
+          early = λ t h. rw (← cube-is t h) (covered-early (circuitIn g) (g .w) room _ _ outcome-is switches _ from t h);
+          late = λ t h. rw (← cube-is _ (in-loop t)) (covered-late (circuitIn g) (g .w) room _ _ outcome-is switches _ from t h);
+          judged = λ i v e. lamp-judged (circuitIn g) (g .w) room _ _ outcome-is switches _ from i v (rw verdict-is at e);
+          keeps = λ i v e. latch-settled (circuitIn g) (g .w) room _ _ outcome-is switches _ from i v (rw settled-is at e);
+        }
+      where
+        in-loop : (t : ℕ) → r .back + (t - r .back) % (r .cubes - r .back) < r .cubes
+        in-loop t = let small : (t - r .back) % (r .cubes - r .back) < r .cubes - r .back = mod-lt (t - r .back) (omega (arith, below)) in omega (arith, below)
+
+  pub only-full : refusedBy g ≡ 0 → (r .number ≡ 0 → ⊥) → (r .number ≡ 15) × (outcomeIn g ≡ full)
+  only-full ok h = number-says (outcomeIn g) (runs .answers ∙ sym (accepted-new (refusedBy g) _ _ ok)) h
+
+  latches-sized : length (circuitIn g .latches) ≡ g .counts .latches
+  unfolding circuitIn circuitOf
+  latches-sized = length-tabulate (g .counts .latches) _
+
+  run-within : refusedBy g ≡ 0 → 1 ≤ g .w → g .w * g .counts .latches + 1 ≤ roomIn (g .counts) (g .cubes) → (r .number ≡ 0) × (r .cubes ≤ g .w * g .counts .latches + 1)
+  unfolding outcomeIn cubesIn
+  run-within ok pos enough =
+      let within = run-closes (circuitIn g) (g .w) (roomIn (g .counts) (g .cubes)) pos (rw latches-sized enough) in
+      let says = closed-says (roomIn (g .counts) (g .cubes)) (outcomeIn g) (within .is-closed) in
+      let number : r .number ≡ 0 = runs .answers ∙ sym (accepted-new (refusedBy g) _ _ ok) ∙ says .0 in
+      let count : r .cubes ≡ within .n = runs .counts ∙ sym (accepted-new (refusedBy g) _ _ ok) ∙ says .1 in
+      (number, omega (arith, count, within .few, ap (_*_ (g .w)) latches-sized))
+
+  pub promises : Promises g r cubes verdict′ settled′
+  promises = record { covers = run-covers; closes = run-within }

@@ -1,0 +1,96 @@
+-- What a search and a run did, told step by step, so that a proof goes through the steps by cases. Assumes nothing.
+use mathlib.Core.Path.{_≡_, refl, ap, ap₂}
+use mathlib.Core.Bool.{Bool, true, false}
+use Prim.Native.Nat.{ℕ, zero, suc, _+_, _<_}
+use native.Mathlib.Nat.{add-zero, add-suc}
+use native.Mathlib.Decide.{decLt}
+use native.Mathlib.Omega.{arith}
+use Rattle.three.specs.Cube.{Cube, subsumes}
+use Rattle.circuit.specs.Circuit.{Circuit}
+use Rattle.cubes.specs.Run.{reached, stage, cubeAt, Found, at, nowhere, search, Outcome, closed, full, back, run}
+
+module _ (cubes : ℕ → Cube) (b : Cube) where
+  -- a search through the first n cubes, and its result
+  pub data Searched : ℕ → Found → Type 0 where
+    nothing : Searched 0 nowhere
+    before : {n j : ℕ} → Searched n (at j) → Searched (suc n) (at j)
+    here : {n : ℕ} → Searched n nowhere → subsumes (cubes n) b ≡ true → Searched (suc n) (at n)
+    not-here : {n : ℕ} → Searched n nowhere → subsumes (cubes n) b ≡ false → Searched (suc n) nowhere
+
+  pub searched : (n : ℕ) → Searched n (search cubes n b)
+  unfolding search
+  searched zero = nothing
+  searched (suc n) = go (search cubes n b) (subsumes (cubes n) b) (searched n) refl
+    where
+      go : (f : Found) (s : Bool) → Searched n f → subsumes (cubes n) b ≡ s
+          → Searched (suc n) (elim f [ at j ↦ at j | nowhere ↦ elim s [ true ↦ at n | false ↦ nowhere ] ])
+      go (at j) s past e = before past
+      go nowhere true past e = here past e
+      go nowhere false past e = not-here past e
+
+-- what is found is one of the cubes, and subsumes b
+pub found : {cubes : ℕ → Cube} {b : Cube} {n j : ℕ} → Searched cubes b n (at j) → (j < n) × (subsumes (cubes j) b ≡ true)
+found (before past) = let h = found past in (omega arith, h .1)
+found (here past e) = (omega arith, e)
+
+-- where nothing is found, the last cube does not subsume b
+pub last-fails : {cubes : ℕ → Cube} {b : Cube} {n : ℕ} → Searched cubes b (suc n) nowhere → subsumes (cubes n) b ≡ false
+last-fails (not-here past e) = e
+
+-- where nothing is found no cube does, and none before the one that is found
+pub none-at-all : {cubes : ℕ → Cube} {b : Cube} {n : ℕ} → Searched cubes b n nowhere → (m : ℕ) → m < n → subsumes (cubes m) b ≡ false
+none-at-all nothing m h = absurd (omega arith)
+none-at-all {cubes} {b} (not-here {n = n} past e) m h = go (decLt m n) (λ l. none-at-all past m l)
+  where
+    go : Dec (m < n) → (m < n → subsumes (cubes m) b ≡ false) → subsumes (cubes m) b ≡ false
+    go (yes early) on = on early
+    go (no late) on = let same : m ≡ n = omega arith in rw same e
+
+pub none-before : {cubes : ℕ → Cube} {b : Cube} {n j : ℕ} → Searched cubes b n (at j) → (m : ℕ) → m < j → subsumes (cubes m) b ≡ false
+none-before (before past) m h = none-before past m h
+none-before (here past e) m h = none-at-all past m h
+
+module _ (c : Circuit) (w : ℕ) where
+  -- the search after cube number k, and its result
+  abbrev pub Looked : ℕ → Found → Type 0
+  Looked k f = Searched (cubeAt c w) (reached c (stage c w k)) (suc k) f
+
+  looked : (k : ℕ) → Looked k (back c w k)
+  unfolding back
+  looked k = searched (cubeAt c w) (reached c (stage c w k)) (suc k)
+
+  -- a run with so much room, and its outcome
+  pub data Ran : ℕ → Outcome → Type 0 where
+    begun : Ran 0 full
+    stays : {k n j : ℕ} → Ran k (closed n j) → Ran (suc k) (closed n j)
+    closes : {k j : ℕ} → Ran k full → Looked k (at j) → Ran (suc k) (closed (suc k) j)
+    goes-on : {k : ℕ} → Ran k full → Looked k nowhere → Ran (suc k) full
+
+  pub ran : (room : ℕ) → Ran room (run c w room)
+  unfolding run
+  ran zero = begun
+  ran (suc k) = go (run c w k) (back c w k) (ran k) (looked k)
+    where
+      go : (o : Outcome) (f : Found) → Ran k o → Looked k f
+          → Ran (suc k) (elim o [ closed n j ↦ closed n j | full ↦ elim f [ at j ↦ closed (suc k) j | nowhere ↦ full ] ])
+      go (closed n j) f past l = stays past
+      go full (at j) past l = closes past l
+      go full nowhere past l = goes-on past l
+
+  -- one step of the run
+  run-step : (k : ℕ) {f : Found} → run c w k ≡ full → back c w k ≡ f → run c w (suc k) ≡ elim f [ at j ↦ closed (suc k) j | nowhere ↦ full ]
+  unfolding run
+  run-step k e g = ap₂ {C = Outcome} (λ (o : Outcome) (f : Found). elim o [ closed n j ↦ closed n j | full ↦ elim f [ at j ↦ closed (suc k) j | nowhere ↦ full ] ]) e g
+
+  pub run-closes-now : (k j : ℕ) → run c w k ≡ full → back c w k ≡ at j → run c w (suc k) ≡ closed (suc k) j
+  run-closes-now k j e g = run-step k e g
+
+  pub run-goes-on : (k : ℕ) → run c w k ≡ full → back c w k ≡ nowhere → run c w (suc k) ≡ full
+  run-goes-on k e g = run-step k e g
+
+  -- a run that is closed stays so with more room
+  pub run-stays : (k more n j : ℕ) → run c w k ≡ closed n j → run c w (k + more) ≡ closed n j
+  unfolding run
+  run-stays k zero n j e = rw add-zero e
+  run-stays k (suc more) n j e =
+      rw add-suc (ap {B = Outcome} (λ (o : Outcome). elim o [ closed n j ↦ closed n j | full ↦ elim (back c w (k + more)) [ at j ↦ closed (suc (k + more)) j | nowhere ↦ full ] ]) (run-stays k more n j e))

@@ -1,0 +1,103 @@
+-- The public run (document 01, Run): its refusals in order, what it answers, and what it leaves. Assumes nothing.
+use mathlib.Core.Path.{_≡_}
+use mathlib.Core.List.{List, [], _∷_, _++_, flatMap}
+use Prim.Native.Nat.{ℕ, _*_, _/_}
+use lib.Dec.{leb}
+use lib.ListN.{length, drop}
+use Rattle.three.specs.Lists.{over, tabulate}
+use Rattle.three.specs.Cube.{Cube, knownFields}
+use Rattle.three.specs.Record.{bytesFor, pack, unpack}
+use Rattle.circuit.specs.declared.Counts.{Counts}
+use Rattle.circuit.specs.Circuit.{Circuit}
+use Rattle.circuit.specs.Refusal.{Test, _or_, refusal, accepted}
+use Rattle.circuit.specs.Table.{circuitOf, circuitTests}
+use Rattle.cubes.specs.declared.RunAnswer.{RunAnswer}
+use Rattle.cubes.specs.Run.{cubeAt, Outcome, closed, full, run, verdict, settled}
+
+-- ---- cubes in the buffer
+
+-- cube number k starts at byte k × record length
+unfoldable pub cubeIn : ℕ → List ℕ → ℕ → Cube
+cubeIn latches buffer k = unpack latches (drop (k * bytesFor latches) buffer)
+
+-- the first n cubes of a run, as they stand in the buffer
+unfoldable pub packedCubes : Circuit → ℕ → ℕ → List ℕ
+packedCubes c w n = flatMap pack (tabulate n (cubeAt c w))
+
+-- "Room is cube buffer bytes / record length, rounded down."
+unfoldable pub roomIn : Counts → List ℕ → ℕ
+roomIn c buffer = length buffer / bytesFor (c .latches)
+
+-- how many cubes are stored: n, or all that there is room for
+unfoldable pub storedCubes : ℕ → Outcome → ℕ
+storedCubes room (closed n j) = n
+storedCubes room full = room
+
+unfoldable pub backTo : Outcome → ℕ
+backTo (closed n j) = j
+backTo full = 0
+
+-- 15 where the run is not closed
+unfoldable pub outcomeNumber : Outcome → ℕ
+outcomeNumber (closed n j) = 0
+outcomeNumber full = 15
+
+-- ---- the public call
+
+-- 10 for results, by their lengths
+unfoldable pub resultTests : Counts → ℕ → ℕ → List Test
+resultTests c verdict settled = leb (bytesFor (c .lamps)) verdict or 10 ∷ leb (bytesFor (c .latches)) settled or 10 ∷ []
+
+-- 3, 10 for the table, 11, 12, 13, 10 for results; the buffers by their lengths
+unfoldable pub runTests : Counts → List ℕ → ℕ → ℕ → ℕ → ℕ → List Test
+runTests c table w cubes verdict settled =
+    circuitTests c table
+    ++ (leb w 1000 or 12
+    ∷ leb (bytesFor (c .latches)) cubes or 13
+    ∷ leb cubes 65536 or 13
+    ∷ resultTests c verdict settled)
+
+-- What a run is given: counts, table, w, and the three buffers as they are lent
+pub record Given : Type 0 where
+  pub counts : Counts
+  pub table : List ℕ
+  pub w : ℕ
+  pub cubes : List ℕ
+  pub verdict : List ℕ
+  pub settled : List ℕ
+
+module _ (g : Given) where
+  -- the first of the refusals before 15
+  unfoldable pub refusedBy : ℕ
+  refusedBy = refusal (runTests (g .counts) (g .table) (g .w) (length (g .cubes)) (length (g .verdict)) (length (g .settled)))
+
+  unfoldable pub circuitIn : Circuit
+  circuitIn = circuitOf (g .counts) (g .table)
+
+  unfoldable pub outcomeIn : Outcome
+  outcomeIn = run circuitIn (g .w) (roomIn (g .counts) (g .cubes))
+
+  -- n and j; n = room where there is no room for the next cube
+  unfoldable pub cubesIn : ℕ
+  cubesIn = storedCubes (roomIn (g .counts) (g .cubes)) outcomeIn
+
+  unfoldable pub backIn : ℕ
+  backIn = backTo outcomeIn
+
+  -- the verdict, the settled record and s of a closed run
+  unfoldable pub verdictFields : Cube
+  verdictFields = verdict circuitIn (cubeAt circuitIn (g .w)) cubesIn
+
+  unfoldable pub settledFields : Cube
+  settledFields = settled (cubeAt circuitIn (g .w)) cubesIn backIn
+
+-- The contract of the run: what it answers, and every byte of the three buffers at exit.
+-- A refusal before 15 answers zeros and changes nothing; 15 answers n = room and stores that many cubes, and leaves verdict and settled record.
+pub record Runs (g : Given) (r : RunAnswer) (cubes verdict settled : List ℕ) : Type 0 where
+  pub answers : r .number ≡ accepted (refusedBy g) (outcomeNumber (outcomeIn g)) (refusedBy g)
+  pub counts : r .cubes ≡ accepted (refusedBy g) (cubesIn g) 0
+  pub goes-back : r .back ≡ accepted (refusedBy g) (backIn g) 0
+  pub settles : r .settled ≡ accepted (r .number) (knownFields (settledFields g)) 0
+  pub fills-cubes : cubes ≡ accepted (refusedBy g) (over (packedCubes (circuitIn g) (g .w) (cubesIn g)) (g .cubes)) (g .cubes)
+  pub fills-verdict : verdict ≡ accepted (r .number) (over (pack (verdictFields g)) (g .verdict)) (g .verdict)
+  pub fills-settled : settled ≡ accepted (r .number) (over (pack (settledFields g)) (g .settled)) (g .settled)

@@ -1,0 +1,32 @@
+-- What a run promises of every execution (document 01, demand 3), over the answers and the bytes that the call leaves. Assumes nothing.
+use mathlib.Core.Path.{_≡_}
+use mathlib.Core.Bool.{Bool, false}
+use mathlib.Core.List.{List}
+use Prim.Native.Nat.{ℕ, _+_, _*_, _-_, _%_, _<_, _≤_}
+use lib.ListN.{getD}
+use Rattle.three.specs.Value.{unknown, known}
+use Rattle.three.specs.Cube.{_∋_}
+use Rattle.three.specs.Record.{unpack}
+use Rattle.cubes.specs.declared.RunAnswer.{RunAnswer}
+use Rattle.cubes.specs.Call.{cubeIn, Given, circuitIn, roomIn, refusedBy}
+use Rattle.cubes.specs.Execution.{stateAfter, lampsAfter, resets}
+
+module _ (g : Given) (r : RunAnswer) (cubes verdict settled : List ℕ) where
+  -- One execution from the resets: `switches t i` is switch i at tick t.
+  pub record Covered (switches : ℕ → ℕ → Bool) : Type 0 where
+    -- the state after t ticks lies in cube t, or in the loop's cube for it
+    pub early : (t : ℕ) → t < r .cubes → cubeIn (g .counts .latches) cubes t ∋ stateAfter (circuitIn g) switches (resets (circuitIn g)) t
+    pub late : (t : ℕ) → r .cubes ≤ t → cubeIn (g .counts .latches) cubes (r .back + (t - r .back) % (r .cubes - r .back)) ∋ stateAfter (circuitIn g) switches (resets (circuitIn g)) t
+    -- "never" (false) is dark at every tick, "always" (true) lit
+    pub judged : (i : ℕ) (v : Bool) → getD (unpack (g .counts .lamps) verdict) i unknown ≡ known v
+        → (t : ℕ) → getD (lampsAfter (circuitIn g) switches (resets (circuitIn g)) t) i false ≡ v
+    -- a settled latch keeps its value from tick j on
+    pub keeps : (i : ℕ) (v : Bool) → getD (unpack (g .counts .latches) settled) i unknown ≡ known v
+        → (t : ℕ) → r .back ≤ t → getD (stateAfter (circuitIn g) switches (resets (circuitIn g)) t) i false ≡ v
+
+  pub record Promises : Type 0 where
+    -- a closed run covers every execution
+    pub covers : r .number ≡ 0 → (switches : ℕ → ℕ → Bool) → Covered switches
+    -- with w at least 1 and room for w × L + 1 cubes a run that is not refused closes within them
+    pub closes : refusedBy g ≡ 0 → 1 ≤ g .w → g .w * g .counts .latches + 1 ≤ roomIn (g .counts) (g .cubes)
+        → (r .number ≡ 0) × (r .cubes ≤ g .w * g .counts .latches + 1)

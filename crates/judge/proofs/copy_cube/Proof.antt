@@ -1,0 +1,60 @@
+-- `run::copy_cube` meets its contract: the bytes are copied in turn. Assumes nothing.
+use Prim.Native.Nat.{_-_}
+use lib.ListN.{drop}
+use Rattle.three.proofs.Lists.{Stored, stored-first, stored-last}
+use Rattle.judge.proofs.Judging.{copy-next}
+use native.Mathlib.Omega.{arith}
+use Rattle.judge.proofs.copy_cube.Statement.{statement}
+use Rattle.judge.proofs.copy_cube.Tie as tie
+
+abbrev Inv-loop : tie.InvT-loop
+Inv-loop cubes at len out₀ i₀ out i = Stored out₀ 0 (drop at cubes) len out i
+
+abbrev μ-loop : tie.MeasureT-loop
+μ-loop cubes at len out₀ i₀ out i = len - i
+
+loop-holds : tie.Need-loop-holds Inv-loop μ-loop
+loop-holds c = stored-first _ _ _ _
+
+add-out : tie.Need-add-out Inv-loop μ-loop
+add-out c = omega arith
+
+shared-slice-read-out : tie.Need-shared-slice-read-out Inv-loop μ-loop
+shared-slice-read-out c = omega arith
+
+slice-write-out : tie.Need-slice-write-out Inv-loop μ-loop
+slice-write-out c = omega arith
+
+add-i : tie.Need-add-i Inv-loop μ-loop
+add-i c = omega arith
+
+loop-less : tie.Need-loop-less Inv-loop μ-loop
+loop-less c = omega arith
+
+loop-again : tie.Need-loop-again Inv-loop μ-loop
+loop-again c =
+    let turn = c .before in
+    let start = turn .before .before in
+    copy-next (start .args .cubes .now) (start .args .at) _ _ _ _ (start .pre .0) (start .pre .1) (turn .before .loop .inv) (turn .loop-test .taken)
+
+same-length : tie.Need-same-length Inv-loop μ-loop
+same-length c = c .before .loop .inv .long
+
+returns : tie.Need-returns Inv-loop μ-loop
+returns c = stored-last _ _ _ _ _ _ (c .before .loop .inv) (c .loop-test .left)
+
+pub copy-cube-spec : {M : Type 1} → statement M
+copy-cube-spec =
+    tie.close
+    (tie.spec
+    Inv-loop
+    μ-loop
+    loop-holds
+    add-out
+    shared-slice-read-out
+    slice-write-out
+    add-i
+    loop-less
+    loop-again
+    same-length
+    returns)

@@ -1,0 +1,51 @@
+-- `run::judge` meets its contract: the lamps, then the latches, and the count of those. Assumes nothing.
+use Rattle.judge.proofs.Judging.{judgeable-len, settleable, settled-record-of, settled-known}
+use native.Mathlib.Omega.{arith}
+use borrow.Author.Needs.{needs}
+use Rattle.judge.proofs.judge.Statement.{statement}
+use Rattle.judge.proofs.judge.Tie as tie
+
+record-length-requires : tie.Need-record-length-requires
+record-length-requires c κs = search needs
+
+judge-lamps-requires : tie.Need-judge-lamps-requires
+judge-lamps-requires c κs =
+    let pre = c .before .before .before .before .before .before .pre in
+    (judgeable-len _ _ _ _ (pre .0) _ (c .before .record-length .ensures), pre .2)
+
+settle-latches-requires : tie.Need-settle-latches-requires
+settle-latches-requires c κs =
+    let pre = c .before .before .before .before .before .before .before .before .before .before .pre in
+    (settleable _ _ _ _ (pre .0) _ (c .before .before .before .before .before .record-length .ensures) _ (pre .1), pre .3)
+
+known-fields-requires : tie.Need-known-fields-requires
+known-fields-requires c κs =
+    let pre = c .before .before .before .before .before .before .before .before .before .before .before .before .before .before .pre in
+    (omega (arith, pre .0 .legal .bounded), settled-record-of _ _ _ _ (pre .0) _ _ _ (pre .3) (c .before .before .before .settle-latches .ensures))
+
+same-length : tie.Need-same-length
+same-length c = search needs
+
+same-length-2 : tie.Need-same-length-2
+same-length-2 c = search needs
+
+returns : tie.Need-returns
+returns c =
+    let pre = c .before .before .before .before .before .before .before .before .before .before .before .before .before .before .before .pre in
+    record {
+      lamps = c .before .before .before .before .before .before .before .before .judge-lamps .ensures;
+      latches = c .before .before .before .before .settle-latches .ensures;
+      count = settled-known _ _ _ _ (pre .0) _ _ _ _ (c .before .before .before .before .settle-latches .ensures) (c .known-fields .ensures);
+    }
+
+pub judge-spec : {M : Type 1} → statement M
+judge-spec =
+    tie.close
+    (tie.spec
+    record-length-requires
+    judge-lamps-requires
+    settle-latches-requires
+    known-fields-requires
+    same-length
+    same-length-2
+    returns)

@@ -1,0 +1,137 @@
+-- `run::judge_lamps` meets its contract: the lamps of each cube are merged into those of the cubes before it. Assumes nothing.
+use mathlib.Core.Path.{_≡_, refl, sym, _∙_}
+use Prim.Native.Nat.{_-_, _≤_}
+use lib.ListN.{length}
+use Rattle.pass.proofs.Settling.{fresh}
+use Rattle.stored.specs.CubesInCode.{Ready}
+use Rattle.stored.proofs.Reaching.{fresh-ready}
+use Rattle.judge.proofs.Judging.{Judged, first-cube, few-lamps, lamps-fit, lamp-place, judged-first, judged-record, judged-length, lamps-record, lamps-length, judged-next, judged-last}
+use native.Mathlib.Omega.{arith}
+use Rattle.judge.proofs.judge_lamps.Statement.{statement}
+use Rattle.judge.proofs.judge_lamps.Tie as tie
+
+abbrev Inv-loop : tie.InvT-loop
+Inv-loop counts table cubes len n verdict₀ values₀ lamps₀ k₀ verdict values lamps k = Ready counts values × Judged counts table cubes verdict₀ verdict k × (length lamps ≡ 16) × (k ≤ n)
+
+abbrev μ-loop : tie.MeasureT-loop
+μ-loop counts table cubes len n verdict₀ values₀ lamps₀ k₀ verdict values lamps k = n - k
+
+put-variable-requires : tie.Need-put-variable-requires Inv-loop μ-loop
+put-variable-requires c κs = (omega arith, omega arith, fresh)
+
+lamps-at-requires : tie.Need-lamps-at-requires Inv-loop μ-loop
+lamps-at-requires c κs =
+    let start = c .before .before .before .before .before .before .before in
+    let pre = start .pre in
+    let entry = start .args .verdict .now in
+    (pre .0 .legal, omega arith, first-cube _ _ _ _ _ (pre .0) entry (pre .1), fresh-ready (start .args .counts) _ (pre .0 .legal .bounded .inputs) (c .before .before .put-variable .ensures), pre .1)
+
+loop-holds : tie.Need-loop-holds Inv-loop μ-loop
+loop-holds c =
+    let start = c .before .before .before .before .before .before .before .before .before .before in
+    let pre = start .pre in
+    let entry = start .args .verdict .now in
+    let lit = c .before .before .lamps-at .ensures in
+    (lit .0, judged-first _ _ _ _ _ (pre .0) entry (pre .1) _ (lit .1), refl, pre .0 .some)
+
+mul-lamps-at : tie.Need-mul-lamps-at Inv-loop μ-loop
+mul-lamps-at c =
+    let at = c .before in
+    let start = at .before .before .before .before .before .before .before .before .before .before .before in
+    let pre = start .pre in
+    let entry = start .args .verdict .now in
+    let inv = at .loop .inv in
+    let first = at .before .before .before .lamps-at .ensures .1 in
+    omega (arith, lamp-place _ _ _ _ _ (pre .0) entry (pre .1) _ (c .loop-test .taken), start .good)
+
+slice-aggregate-lamps-at : tie.Need-slice-aggregate-lamps-at Inv-loop μ-loop
+slice-aggregate-lamps-at c = sym (c .before .before .before .loop .inv .2)
+
+lamps-at-requires-2 : tie.Need-lamps-at-requires-2 Inv-loop μ-loop
+lamps-at-requires-2 c κs =
+    let at = c .before .before .before in
+    let start = at .before .before .before .before .before .before .before .before .before .before .before in
+    let pre = start .pre in
+    let entry = start .args .verdict .now in
+    let inv = at .loop .inv in
+    let first = at .before .before .before .lamps-at .ensures .1 in
+    let h = c .before .before .loop-test .taken in
+    (pre .0 .legal, lamp-place _ _ _ _ _ (pre .0) entry (pre .1) _ h, pre .0 .cube _ h, inv .0, omega (arith, few-lamps _ _ _ _ _ (pre .0) entry (pre .1), inv .2))
+
+slice-aggregate-agree : tie.Need-slice-aggregate-agree Inv-loop μ-loop
+slice-aggregate-agree c =
+    let at = c .before .before .before .before .before .before .before in
+    let start = at .before .before .before .before .before .before .before .before .before .before .before in
+    let pre = start .pre in
+    let entry = start .args .verdict .now in
+    let inv = at .loop .inv in
+    let first = at .before .before .before .lamps-at .ensures .1 in
+    sym (lamps-length _ _ _ _ _ (pre .0) entry (pre .1) _ first _ _ _ (lamps-fit _ _ _ _ _ (pre .0) entry (pre .1) (at .loop .lamps) (inv .2)) (c .before .before .before .lamps-at2 .ensures .1) ∙ inv .2)
+
+agree-requires : tie.Need-agree-requires Inv-loop μ-loop
+agree-requires c κs =
+    let at = c .before .before .before .before .before .before .before in
+    let start = at .before .before .before .before .before .before .before .before .before .before .before in
+    let pre = start .pre in
+    let entry = start .args .verdict .now in
+    let inv = at .loop .inv in
+    let first = at .before .before .before .lamps-at .ensures .1 in
+    (judged-record _ _ _ _ _ (pre .0) entry (pre .1) _ first _ _ (inv .1), lamps-record _ _ _ _ _ (pre .0) entry (pre .1) _ first _ _ _ (lamps-fit _ _ _ _ _ (pre .0) entry (pre .1) (at .loop .lamps) (inv .2)) (c .before .before .before .lamps-at2 .ensures .1))
+
+add-k : tie.Need-add-k Inv-loop μ-loop
+add-k c = omega arith
+
+loop-less : tie.Need-loop-less Inv-loop μ-loop
+loop-less c = omega arith
+
+loop-again : tie.Need-loop-again Inv-loop μ-loop
+loop-again c =
+    let at = c .before .before .before .before .before .before .before .before .before .before in
+    let start = at .before .before .before .before .before .before .before .before .before .before .before in
+    let pre = start .pre in
+    let entry = start .args .verdict .now in
+    let inv = at .loop .inv in
+    let first = at .before .before .before .lamps-at .ensures .1 in
+    let read = c .before .before .before .before .before .before .lamps-at2 .ensures in
+    let wide = lamps-fit _ _ _ _ _ (pre .0) entry (pre .1) (at .loop .lamps) (inv .2) in
+    (read .0, judged-next _ _ _ _ _ (pre .0) entry (pre .1) _ first _ _ _ wide (read .1) _ _ (inv .1) (c .before .before .agree .ensures), lamps-length _ _ _ _ _ (pre .0) entry (pre .1) _ first _ _ _ wide (read .1) ∙ inv .2, omega (arith, c .before .before .before .before .before .before .before .before .before .loop-test .taken))
+
+same-length : tie.Need-same-length Inv-loop μ-loop
+same-length c =
+    let at = c .before in
+    let start = at .before .before .before .before .before .before .before .before .before .before .before in
+    let pre = start .pre in
+    let entry = start .args .verdict .now in
+    let inv = at .loop .inv in
+    let first = at .before .before .before .lamps-at .ensures .1 in
+    judged-length _ _ _ _ _ (pre .0) entry (pre .1) _ first _ _ (inv .1)
+
+returns : tie.Need-returns Inv-loop μ-loop
+returns c =
+    let at = c .before in
+    let start = at .before .before .before .before .before .before .before .before .before .before .before in
+    let pre = start .pre in
+    let entry = start .args .verdict .now in
+    let inv = at .loop .inv in
+    let first = at .before .before .before .lamps-at .ensures .1 in
+    judged-last _ _ _ _ _ (pre .0) entry (pre .1) _ first _ _ (inv .1) (omega arith)
+
+pub judge-lamps-spec : {M : Type 1} → statement M
+judge-lamps-spec =
+    tie.close
+    (tie.spec
+    Inv-loop
+    μ-loop
+    put-variable-requires
+    lamps-at-requires
+    loop-holds
+    mul-lamps-at
+    slice-aggregate-lamps-at
+    lamps-at-requires-2
+    slice-aggregate-agree
+    agree-requires
+    add-k
+    loop-less
+    loop-again
+    same-length
+    returns)

@@ -1,0 +1,135 @@
+-- `run::settle_latches` meets its contract: the cubes from j on are merged one after the other. Assumes nothing.
+use Prim.Native.Nat.{_-_, _≤_}
+use Rattle.judge.proofs.Judging.{Settled, latch-place, cube-record, settled-first, settled-record, settled-length, settled-next, settled-last}
+use native.Mathlib.Omega.{arith}
+use Rattle.judge.proofs.settle_latches.Statement.{statement}
+use Rattle.judge.proofs.settle_latches.Tie as tie
+
+abbrev Inv-loop : tie.InvT-loop
+Inv-loop latches cubes len n j settled₀ k₀ settled k = Settled latches cubes j settled₀ settled k × (k ≤ n)
+
+abbrev μ-loop : tie.MeasureT-loop
+μ-loop latches cubes len n j settled₀ k₀ settled k = n - k
+
+mul-copy-cube : tie.Need-mul-copy-cube Inv-loop μ-loop
+mul-copy-cube c =
+    let start = c .before .before in
+    let pre = start .pre in
+    let entry = start .args .settled .now in
+    omega (arith, latch-place _ _ _ _ _ (pre .0) entry (pre .1) _ (pre .0 .below), start .good)
+
+copy-cube-requires : tie.Need-copy-cube-requires Inv-loop μ-loop
+copy-cube-requires c κs =
+    let start = c .before .before .before in
+    let pre = start .pre in
+    let entry = start .args .settled .now in
+    (latch-place _ _ _ _ _ (pre .0) entry (pre .1) _ (pre .0 .below), omega (arith, pre .0 .size, pre .1))
+
+add-k : tie.Need-add-k Inv-loop μ-loop
+add-k c = omega arith
+
+loop-holds : tie.Need-loop-holds Inv-loop μ-loop
+loop-holds c =
+    let start = c .before .before .before .before .before .before in
+    let pre = start .pre in
+    let entry = start .args .settled .now in
+    (settled-first _ _ _ _ _ (pre .0) entry (pre .1) (λ i. c .before .before .before .before .before .shared-slice-known .given i .fits) _ (c .before .before .copy-cube .ensures), omega arith)
+
+mul-agree : tie.Need-mul-agree Inv-loop μ-loop
+mul-agree c =
+    let at = c .before .before in
+    let start = at .before .before .before .before .before .before .before in
+    let pre = start .pre in
+    let entry = start .args .settled .now in
+    let inv = at .loop .inv in
+    omega (arith, latch-place _ _ _ _ _ (pre .0) entry (pre .1) _ (c .before .loop-test .taken), start .good)
+
+sub-agree : tie.Need-sub-agree Inv-loop μ-loop
+sub-agree c =
+    let at = c .before .before in
+    let start = at .before .before .before .before .before .before .before in
+    let pre = start .pre in
+    let entry = start .args .settled .now in
+    let inv = at .loop .inv in
+    omega (arith, latch-place _ _ _ _ _ (pre .0) entry (pre .1) _ (c .before .loop-test .taken))
+
+part-agree-start : tie.Need-part-agree-start Inv-loop μ-loop
+part-agree-start c =
+    let at = c .before .before in
+    let start = at .before .before .before .before .before .before .before in
+    let pre = start .pre in
+    let entry = start .args .settled .now in
+    let inv = at .loop .inv in
+    omega (arith, latch-place _ _ _ _ _ (pre .0) entry (pre .1) _ (c .before .loop-test .taken))
+
+part-agree-end : tie.Need-part-agree-end Inv-loop μ-loop
+part-agree-end c =
+    let at = c .before .before in
+    let start = at .before .before .before .before .before .before .before in
+    let pre = start .pre in
+    let entry = start .args .settled .now in
+    let inv = at .loop .inv in
+    omega (arith, latch-place _ _ _ _ _ (pre .0) entry (pre .1) _ (c .before .loop-test .taken))
+
+agree-requires : tie.Need-agree-requires Inv-loop μ-loop
+agree-requires c κs =
+    let at = c .before .before .before in
+    let start = at .before .before .before .before .before .before .before in
+    let pre = start .pre in
+    let entry = start .args .settled .now in
+    let inv = at .loop .inv in
+    (settled-record _ _ _ _ _ (pre .0) entry (pre .1) (λ i. at .before .before .before .before .before .before .shared-slice-known .given i .fits) _ (at .before .before .before .copy-cube .ensures) _ _ (inv .0), cube-record _ _ _ _ _ (pre .0) entry (pre .1) _ (c .before .before .loop-test .taken))
+
+add-k-2 : tie.Need-add-k-2 Inv-loop μ-loop
+add-k-2 c = omega arith
+
+loop-less : tie.Need-loop-less Inv-loop μ-loop
+loop-less c = omega arith
+
+loop-again : tie.Need-loop-again Inv-loop μ-loop
+loop-again c =
+    let at = c .before .before .before .before .before .before in
+    let start = at .before .before .before .before .before .before .before in
+    let pre = start .pre in
+    let entry = start .args .settled .now in
+    let inv = at .loop .inv in
+    (settled-next _ _ _ _ _ (pre .0) entry (pre .1) (λ i. at .before .before .before .before .before .before .shared-slice-known .given i .fits) _ (at .before .before .before .copy-cube .ensures) _ _ _ (inv .0) (c .before .before .agree .ensures), omega (arith, c .before .before .before .before .before .loop-test .taken))
+
+same-length : tie.Need-same-length Inv-loop μ-loop
+same-length c =
+    let at = c .before in
+    let start = at .before .before .before .before .before .before .before in
+    let pre = start .pre in
+    let entry = start .args .settled .now in
+    let inv = at .loop .inv in
+    settled-length _ _ _ _ _ (pre .0) entry (pre .1) (λ i. at .before .before .before .before .before .before .shared-slice-known .given i .fits) _ (at .before .before .before .copy-cube .ensures) _ _ (inv .0)
+
+returns : tie.Need-returns Inv-loop μ-loop
+returns c =
+    let at = c .before in
+    let start = at .before .before .before .before .before .before .before in
+    let pre = start .pre in
+    let entry = start .args .settled .now in
+    let inv = at .loop .inv in
+    settled-last _ _ _ _ _ (pre .0) entry (pre .1) (λ i. at .before .before .before .before .before .before .shared-slice-known .given i .fits) _ (at .before .before .before .copy-cube .ensures) _ _ (inv .0) (omega arith)
+
+pub settle-latches-spec : {M : Type 1} → statement M
+settle-latches-spec =
+    tie.close
+    (tie.spec
+    Inv-loop
+    μ-loop
+    mul-copy-cube
+    copy-cube-requires
+    add-k
+    loop-holds
+    mul-agree
+    sub-agree
+    part-agree-start
+    part-agree-end
+    agree-requires
+    add-k-2
+    loop-less
+    loop-again
+    same-length
+    returns)

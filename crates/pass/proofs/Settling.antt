@@ -1,0 +1,107 @@
+-- One pass for a legal circuit: what the steps of `settle` leave is the circuit's values. Assumes nothing.
+use mathlib.Core.Path.{_≡_, sym, ap, ap₂, _∙_}
+use mathlib.Core.List.{List, [], _∷_, _++_}
+use Prim.Native.Nat.{ℕ, zero, suc, _+_, _*_, _<_, _≤_}
+use native.Mathlib.Nat.{zero-add, add-zero, one-mul}
+use native.Mathlib.Omega.{arith}
+use lib.ListN.{length, getD, set, take, replicate, length-set, length-append, length-replicate}
+use lib.Seq.{paste, take-paste, take-all, take-suc-set, take-append-seam}
+use Rattle.three.specs.Value.{Three, low, decode, ternary}
+use Rattle.three.specs.Cube.{Cube}
+use Rattle.three.proofs.Lists.{length-tabulate, map-tabulate, tabulate-ext}
+use Rattle.circuit.specs.declared.Counts.{Counts}
+use Rattle.circuit.specs.Circuit.{Gate, value, pass, settle, next, lamps}
+use Rattle.circuit.specs.Table.{top, gatesFrom, circuitOf}
+use Rattle.circuit.specs.RulesInCode.{Legal}
+use Rattle.pass.specs.ValuesInCode.{valuesOf, Working, Holding, Begins, Gateable, Readable, literalValues, passed}
+use Rattle.pass.proofs.Values.{length-values, value-take}
+
+module _ (c : Counts) (words : List ℕ) (legal : Legal c words) where
+  pub legal-gates : Gateable words (2 * c .latches + c .lamps) (1 + c .inputs + c .latches) (c .gates)
+  legal-gates = record { long = legal .long; room = omega (arith, legal .bounded); left = legal .left; right = legal .right }
+
+  -- a state behind what stands in the table
+  module _ (state : Cube) (sized : length state ≡ c .latches) where
+    state-loaded : (vs : List Three) → length vs ≡ 4096
+        → take (1 + c .inputs + c .latches) (paste vs (1 + c .inputs) state (c .latches)) ≡ take (1 + c .inputs) vs ++ state
+    state-loaded vs long =
+        take-paste vs (1 + c .inputs) state (c .latches) (omega (arith, legal .bounded .inputs)) (omega arith)
+        ∙ ap (λ (x : List Three). take (1 + c .inputs) vs ++ x) (take-all (c .latches) state (omega arith))
+
+    pub state-begins : (t₀ t₁ t₂ : List ℕ) → Working t₀
+        → Holding t₁ (paste (valuesOf t₀) (1 + c .inputs) state (c .latches))
+        → Holding t₂ (passed words (2 * c .latches + c .lamps) (1 + c .inputs + c .latches) (c .gates) (valuesOf t₁))
+        → Begins t₂ (pass ternary (take (1 + c .inputs) (valuesOf t₀) ++ state) (circuitOf c words .gates))
+    unfolding circuitOf passed
+    state-begins t₀ t₁ t₂ w h₁ h₂ = record {
+      working = h₂ .working;
+      same = rw (h₂ .same, h₁ .same, state-loaded (valuesOf t₀) (length-values t₀ ∙ w .long)) (take-append-seam _ _);
+    }
+
+  -- the constant and the switches in front of it
+  module _ (switches state : Cube) (sized : length switches ≡ c .inputs) where
+    switches-loaded : (vs : List Three) → length vs ≡ 4096 → take (1 + c .inputs) (paste (set vs 0 low) 1 switches (c .inputs)) ≡ low ∷ switches
+    switches-loaded vs long =
+        take-paste (set vs 0 low) 1 switches (c .inputs) (omega (arith, length-set vs 0 low)) (omega arith)
+        ∙ ap₂ (λ (x y : List Three). x ++ y) (take-suc-set vs 0 low (omega arith)) (take-all (c .inputs) switches (omega arith))
+
+    pub settle-begins : (t₀ t₁ t₂ t₃ : List ℕ) → Working t₀
+        → Holding t₁ (set (valuesOf t₀) 0 (decode 1))
+        → Holding t₂ (paste (valuesOf t₁) 1 switches (c .inputs))
+        → Begins t₃ (pass ternary (take (1 + c .inputs) (valuesOf t₂) ++ state) (circuitOf c words .gates))
+        → Begins t₃ (settle ternary (circuitOf c words) switches state)
+    unfolding settle ternary decode
+    settle-begins t₀ t₁ t₂ t₃ w h₁ h₂ b =
+        let front : take (1 + c .inputs) (valuesOf t₂) ≡ low ∷ switches = rw (h₂ .same, h₁ .same) (switches-loaded (valuesOf t₀) (length-values t₀ ∙ w .long)) in
+        rw front at b
+
+-- ---- a literal of the circuit is read from the values that the table begins with
+
+length-pass : (vs : List Three) (gs : List Gate) → length (pass ternary vs gs) ≡ length vs + length gs
+unfolding pass
+length-pass vs [] = sym (add-zero (length vs))
+length-pass vs (g ∷ gs) = length-pass _ gs ∙ rw length-append (omega arith)
+
+module _ (c : Counts) (words : List ℕ) (legal : Legal c words) where
+  -- the literals of the latches' next states, and of the lamps
+  pub next-readable : Readable words 0 2 (c .latches)
+  next-readable = record { long = λ i h. omega (arith, legal .long); small = λ i h. rw zero-add (omega (arith, legal .next i h, legal .bounded)) }
+
+  pub lamps-readable : Readable words (2 * c .latches) 1 (c .lamps)
+  lamps-readable = record { long = λ i h. omega (arith, legal .long); small = λ i h. rw one-mul (omega (arith, legal .lamp i h, legal .bounded)) }
+
+  module _ (switches state : Cube) (sized : length switches ≡ c .inputs) (sized′ : length state ≡ c .latches) (table : List ℕ)
+      (begins : Begins table (settle ternary (circuitOf c words) switches state)) where
+    abbrev values : List Three
+    values = settle ternary (circuitOf c words) switches state
+
+    length-settle : length values ≡ 1 + c .inputs + c .latches + c .gates
+    unfolding settle circuitOf gatesFrom
+    length-settle = length-pass _ _ ∙ rw (length-append, length-tabulate) (omega arith)
+
+    value-begins : (x : ℕ) → x ≤ top c → value ternary (valuesOf table) x ≡ value ternary values x
+    value-begins x h =
+        sym (value-take (valuesOf table) x (length values) (omega (arith, length-settle)))
+        ∙ ap (λ (l : List Three). value ternary l x) (begins .same)
+
+    pub next-stored : literalValues (valuesOf table) words 0 2 (c .latches) ≡ next ternary (circuitOf c words) switches state
+    unfolding literalValues next circuitOf
+    next-stored =
+        tabulate-ext (c .latches) _ _ (λ i h. rw zero-add (value-begins (getD words (2 * i) 0) (legal .next i h)))
+        ∙ sym (map-tabulate _ (c .latches) _)
+
+    pub lamps-stored : literalValues (valuesOf table) words (2 * c .latches) 1 (c .lamps) ≡ lamps ternary (circuitOf c words) switches state
+    unfolding literalValues lamps circuitOf
+    lamps-stored =
+        tabulate-ext (c .lamps) _ _ (λ i h. rw one-mul (value-begins (getD words (2 * c .latches + i) 0) (legal .lamp i h)))
+        ∙ sym (map-tabulate _ (c .lamps) _)
+
+-- ---- a new working table
+
+pub fresh : Working (replicate 4096 0)
+fresh = record { long = length-replicate {A = ℕ} 4096 0; codes = zeros 4096 }
+  where
+    zeros : (n i : ℕ) → getD (replicate n 0) i 0 < 3
+    zeros zero i = omega arith
+    zeros (suc n) zero = omega arith
+    zeros (suc n) (suc i) = zeros n i

@@ -1,0 +1,34 @@
+-- `pass::settle_state` meets its contract: the state is loaded, and the gates are taken behind it. Assumes nothing.
+use Rattle.three.proofs.Pack.{length-unpack}
+use Rattle.pass.proofs.Settling.{legal-gates, state-begins}
+use borrow.Author.Needs.{needs}
+use Rattle.pass.proofs.settle_state.Statement.{statement}
+use Rattle.pass.proofs.settle_state.Tie as tie
+
+add-first : tie.Need-add-first
+add-first c = search needs
+
+load-requires : tie.Need-load-requires
+load-requires c κs = search needs
+
+mul-lamps : tie.Need-mul-lamps
+mul-lamps c = search needs
+
+add-gates : tie.Need-add-gates
+add-gates c = search needs
+
+add-gates-2 : tie.Need-add-gates-2
+add-gates-2 c = search needs
+
+gates-requires : tie.Need-gates-requires
+gates-requires c κs = (legal-gates _ _ (c .before .before .before .before .before .before .before .before .before .pre .0), c .before .before .before .before .load .ensures .working)
+
+returns : tie.Need-returns
+returns c =
+    let pre = c .before .before .before .before .before .before .before .before .before .before .pre in
+    state-begins _ _ (pre .0) _ (length-unpack _ _) _ _ _ (pre .2) (c .before .before .before .before .before .load .ensures) (c .gates .ensures)
+
+pub settle-state-spec : {M : Type 1} → statement M
+settle-state-spec =
+    tie.close
+    (tie.spec add-first load-requires mul-lamps add-gates add-gates-2 gates-requires returns)

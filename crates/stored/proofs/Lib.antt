@@ -1,0 +1,4 @@
+pub mod Starting
+pub mod Keeping
+pub mod Searching
+pub mod Reaching

@@ -1,0 +1,119 @@
+-- A working table with all switches X serves pass after pass: each gives the circuit's values for the state that was loaded. Assumes nothing.
+use mathlib.Core.Path.{_≡_, refl, sym, ap, _∙_}
+use mathlib.Core.List.{List, [], _∷_, _++_, map, append-assoc}
+use Prim.Native.Nat.{ℕ, zero, suc, _+_, _*_, _-_, _≤_}
+use native.Mathlib.Numerals.{one-add}
+use native.Mathlib.Omega.{arith}
+use lib.ListN.{length, getD, set, take, drop, replicate, length-drop, length-replicate, length-append, List·getD-append}
+use lib.Seq.{paste, take-all, take-append-seam, take-take}
+use Rattle.three.specs.Lists.{over}
+use Rattle.three.specs.Value.{Three, unknown, low, decode, ternary}
+use Rattle.three.specs.Cube.{Cube}
+use Rattle.three.specs.Record.{bytesFor, pack}
+use Rattle.three.proofs.Lists.{tabulate-ext}
+use Rattle.three.proofs.Pack.{length-pack}
+use Rattle.circuit.specs.declared.Counts.{Counts}
+use Rattle.circuit.specs.Circuit.{Circuit, Gate, pass, settle}
+use Rattle.circuit.specs.Table.{circuitOf}
+use Rattle.circuit.specs.RulesInCode.{Legal}
+use Rattle.pass.specs.ValuesInCode.{valuesOf, Holding, Begins, literalValues}
+use Rattle.pass.proofs.Settling.{next-stored, lamps-stored}
+use Rattle.pass.proofs.Values.{length-literals}
+use Rattle.cubes.specs.Run.{switchesUnknown, nextCube, lampsIn}
+use Rattle.stored.specs.CubesInCode.{keptByte, keptBytes, Ready}
+
+-- a pass leaves what it starts from
+pass-front : (vs ws : List Three) (gs : List Gate) → take (length vs) (pass ternary (vs ++ ws) gs) ≡ vs
+unfolding pass
+pass-front vs ws [] = take-append-seam vs ws
+pass-front vs ws (g ∷ gs) = rw append-assoc (pass-front vs _ gs)
+
+pass-longer : (vs ws : List Three) (gs : List Gate) → length vs ≤ length (pass ternary (vs ++ ws) gs)
+unfolding pass
+pass-longer vs ws [] = omega (arith, length-append vs ws)
+pass-longer vs ws (g ∷ gs) = rw append-assoc (pass-longer vs _ gs)
+
+module _ (c : Counts) (words : List ℕ) where
+  -- the constant and all switches X
+  abbrev front : List Three
+  front = low ∷ replicate (c .inputs) unknown
+
+  length-front : length front ≡ 1 + c .inputs
+  length-front = rw (one-add) (ap suc (length-replicate (c .inputs) unknown))
+
+  pub ready-settles : (t t′ : List ℕ) (state : Cube) → Ready c t → Begins t′ (pass ternary (take (1 + c .inputs) (valuesOf t) ++ state) (circuitOf c words .gates))
+      → Begins t′ (settle ternary (circuitOf c words) (switchesUnknown (circuitOf c words)) state)
+  unfolding settle ternary switchesUnknown circuitOf
+  ready-settles t t′ state r b =
+      let known : take (1 + c .inputs) (valuesOf t) ≡ front = rw (← length-front) (r .same) in
+      rw known at b
+
+  pub ready-again : (t : List ℕ) (state : Cube) → Begins t (settle ternary (circuitOf c words) (switchesUnknown (circuitOf c words)) state) → Ready c t
+  unfolding settle ternary switchesUnknown circuitOf
+  ready-again t state b = record {
+    working = b .working;
+    same =
+        sym (take-take (length front) _ (valuesOf t) (pass-longer front state (circuitOf c words .gates)))
+        ∙ ap (take (length front)) (b .same)
+        ∙ pass-front front state (circuitOf c words .gates);
+  }
+
+-- ---- a new working table with the constant put
+
+zeros-unknown : (n : ℕ) → map decode (replicate n 0) ≡ replicate n unknown
+unfolding decode
+zeros-unknown zero = refl
+zeros-unknown (suc n) = ap (λ l. unknown ∷ l) (zeros-unknown n)
+
+take-replicate : (m n : ℕ) → m ≤ n → take m (replicate n unknown) ≡ replicate m unknown
+take-replicate zero n h = refl
+take-replicate (suc m) zero h = absurd (omega arith)
+take-replicate (suc m) (suc n) h = ap (λ l. unknown ∷ l) (take-replicate m n (omega arith))
+
+front-taken : (m n : ℕ) → m ≤ n → take (suc m) (set (map decode (replicate (suc n) 0)) 0 low) ≡ low ∷ replicate m unknown
+front-taken m n h = ap (λ (l : List Three). low ∷ l) (ap (take m) (zeros-unknown n) ∙ take-replicate m n h)
+
+pub fresh-ready : (c : Counts) (t : List ℕ) → c .inputs ≤ 256 → Holding t (set (valuesOf (replicate 4096 0)) 0 (decode 1)) → Ready c t
+unfolding valuesOf decode
+fresh-ready c t h put = record {
+  working = put .working;
+  same =
+      ap (λ (n : ℕ). take (suc n) (valuesOf t)) (length-replicate (c .inputs) unknown)
+      ∙ ap (take (suc (c .inputs))) (put .same)
+      ∙ front-taken (c .inputs) 4095 (omega arith);
+}
+
+-- ---- the part of a buffer from a byte on, and the next state that is stored from a pass
+
+pub part-tail : (l : List ℕ) (at : ℕ) → take (length l - at) (drop at l) ≡ drop at l
+part-tail l at = take-all (length l - at) (drop at l) (omega (arith, length-drop at l))
+
+kept-over : (len : ℕ) (held s d : List ℕ) → len ≤ length s → keptBytes len held (over s d) ≡ keptBytes len held s
+unfolding keptBytes over
+kept-over len held s d h = tabulate-ext len _ _ (λ i k. ap (λ (x : ℕ). keptByte x (getD held i 0)) (List·getD-append s (drop (length s) d) 0 i (omega arith)))
+
+module _ (c : Counts) (words : List ℕ) (legal : Legal c words) (state : Cube) (sized : length state ≡ c .latches) (t : List ℕ) where
+  abbrev circuit : Circuit
+  circuit = circuitOf c words
+
+  pub reach-stored : Begins t (settle ternary circuit (switchesUnknown circuit) state) → (held d next b b′ : List ℕ) (len : ℕ) → len ≡ bytesFor (c .latches)
+      → next ≡ over (pack (literalValues (valuesOf t) words 0 2 (c .latches))) d → b′ ≡ paste b 0 (keptBytes len held next) len
+      → b′ ≡ paste b 0 (keptBytes (bytesFor (c .latches)) held (pack (nextCube circuit state))) (bytesFor (c .latches))
+  unfolding nextCube
+  reach-stored begins held d next b b′ len el en eb =
+      let long : bytesFor (c .latches) ≤ length (pack (literalValues (valuesOf t) words 0 2 (c .latches))) = rw (length-pack, length-literals) (omega arith) in
+      let fields = next-stored c words legal (switchesUnknown circuit) state (unknown-sized) sized t begins in
+      let kept : keptBytes (bytesFor (c .latches)) held next ≡ keptBytes (bytesFor (c .latches)) held (pack (nextCube circuit state)) =
+      rw en (kept-over (bytesFor (c .latches)) held _ d long ∙ ap (λ (f : Cube). keptBytes (bytesFor (c .latches)) held (pack f)) fields) in
+      eb ∙ rw (el, kept)
+    where
+      unknown-sized : length (switchesUnknown circuit) ≡ c .inputs
+      unknown-sized = unfold switchesUnknown circuitOf in length-replicate (c .inputs) unknown
+
+-- ---- the lamps that are stored from a pass
+
+module _ (c : Counts) (words : List ℕ) (legal : Legal c words) (state : Cube) (sized : length state ≡ c .latches) (t : List ℕ) where
+  pub lamps-reached : Begins t (settle ternary (circuitOf c words) (switchesUnknown (circuitOf c words)) state)
+      → literalValues (valuesOf t) words (2 * c .latches) 1 (c .lamps) ≡ lampsIn (circuitOf c words) state
+  unfolding lampsIn
+  lamps-reached begins = lamps-stored c words legal (switchesUnknown (circuitOf c words)) state (unfold switchesUnknown circuitOf in length-replicate (c .inputs) unknown) sized t begins

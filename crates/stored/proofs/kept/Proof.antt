@@ -1,0 +1,16 @@
+-- `run::kept` meets its contract: it is the definition. Assumes nothing.
+use mathlib.Core.Path.{refl}
+use Rattle.stored.specs.CubesInCode.{keptByte}
+use borrow.Author.Needs.{needs}
+use Rattle.stored.proofs.kept.Statement.{statement}
+use Rattle.stored.proofs.kept.Tie as tie
+
+sub-result : tie.Need-sub-result
+sub-result c = search needs
+
+returns : tie.Need-returns
+unfolding keptByte
+returns c = refl
+
+pub kept-spec : {M : Type 1} → statement M
+kept-spec = tie.close (tie.spec sub-result returns)

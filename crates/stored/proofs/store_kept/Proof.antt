@@ -1,0 +1,67 @@
+-- `run::store_kept` meets its contract: the bytes are stored in turn. Assumes nothing.
+use Prim.Native.Nat.{_-_}
+use Rattle.three.proofs.Lists.{Stored, stored-first, stored-last}
+use Rattle.stored.specs.CubesInCode.{keptBytes}
+use Rattle.stored.proofs.Keeping.{kept-next}
+use native.Mathlib.Omega.{arith}
+use Rattle.stored.proofs.store_kept.Statement.{statement}
+use Rattle.stored.proofs.store_kept.Tie as tie
+
+abbrev Inv-loop : tie.InvT-loop
+Inv-loop b len out₀ at held i₀ out i = Stored out₀ at (keptBytes len held b) len out i
+
+abbrev μ-loop : tie.MeasureT-loop
+μ-loop b len out₀ at held i₀ out i = len - i
+
+loop-holds : tie.Need-loop-holds Inv-loop μ-loop
+loop-holds c = stored-first _ _ _ _
+
+shared-slice-read-kept : tie.Need-shared-slice-read-kept Inv-loop μ-loop
+shared-slice-read-kept c = omega arith
+
+array-read-kept : tie.Need-array-read-kept Inv-loop μ-loop
+array-read-kept c = omega arith
+
+kept-requires : tie.Need-kept-requires Inv-loop μ-loop
+kept-requires c κs = omega arith
+
+add-out : tie.Need-add-out Inv-loop μ-loop
+add-out c = omega arith
+
+slice-write-out : tie.Need-slice-write-out Inv-loop μ-loop
+slice-write-out c = omega arith
+
+add-i : tie.Need-add-i Inv-loop μ-loop
+add-i c = omega arith
+
+loop-less : tie.Need-loop-less Inv-loop μ-loop
+loop-less c = omega arith
+
+loop-again : tie.Need-loop-again Inv-loop μ-loop
+loop-again c =
+    let turn = c .before .before in
+    kept-next _ _ _ _ _ (c .before .before .before .before .before .before .pre .2) _ _ _ (turn .before .loop .inv) (turn .loop-test .taken) (c .kept .ensures)
+
+same-length : tie.Need-same-length Inv-loop μ-loop
+same-length c = c .before .loop .inv .long
+
+returns : tie.Need-returns Inv-loop μ-loop
+returns c = stored-last _ _ _ _ _ _ (c .before .loop .inv) (c .loop-test .left)
+
+pub store-kept-spec : {M : Type 1} → statement M
+store-kept-spec =
+    tie.close
+    (tie.spec
+    Inv-loop
+    μ-loop
+    loop-holds
+    shared-slice-read-kept
+    array-read-kept
+    kept-requires
+    add-out
+    slice-write-out
+    add-i
+    loop-less
+    loop-again
+    same-length
+    returns)

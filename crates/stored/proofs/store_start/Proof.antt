@@ -1,0 +1,59 @@
+-- `run::store_start` meets its contract: its bytes are stored in turn. Assumes nothing.
+use Prim.Native.Nat.{_-_}
+use Rattle.three.specs.Record.{bytesFor, pack}
+use Rattle.three.proofs.Lists.{Stored, stored-first}
+use Rattle.three.proofs.Filling.{fill-next, fill-last}
+use Rattle.stored.specs.CubesInCode.{startFields}
+use Rattle.stored.proofs.Starting.{start-sized}
+use native.Mathlib.Omega.{arith}
+use Rattle.stored.proofs.store_start.Statement.{statement}
+use Rattle.stored.proofs.store_start.Tie as tie
+
+abbrev Inv-loop : tie.InvT-loop
+Inv-loop table count cubes₀ k₀ k-end cubes k = Stored cubes₀ 0 (pack (startFields table count)) (bytesFor count) cubes k
+
+abbrev μ-loop : tie.MeasureT-loop
+μ-loop table count cubes₀ k₀ k-end cubes k = k-end - k
+
+record-length-requires : tie.Need-record-length-requires Inv-loop μ-loop
+record-length-requires c κs = tt
+
+loop-holds : tie.Need-loop-holds Inv-loop μ-loop
+loop-holds c = stored-first _ _ _ _
+
+start-byte-requires : tie.Need-start-byte-requires Inv-loop μ-loop
+start-byte-requires c κs = omega arith
+
+slice-write-cubes : tie.Need-slice-write-cubes Inv-loop μ-loop
+slice-write-cubes c = omega arith
+
+add-k : tie.Need-add-k Inv-loop μ-loop
+add-k c = omega arith
+
+loop-less : tie.Need-loop-less Inv-loop μ-loop
+loop-less c = omega arith
+
+loop-again : tie.Need-loop-again Inv-loop μ-loop
+loop-again c = fill-next _ _ (start-sized _ _) _ _ _ _ (c .before .before .before .before .before .before .pre .2) (c .before .before .loop .inv) (omega arith) (c .start-byte .ensures)
+
+same-length : tie.Need-same-length Inv-loop μ-loop
+same-length c = c .before .loop .inv .long
+
+returns : tie.Need-returns Inv-loop μ-loop
+returns c = fill-last _ _ (start-sized _ _) _ _ _ (c .before .loop .inv) (omega arith)
+
+pub store-start-spec : {M : Type 1} → statement M
+store-start-spec =
+    tie.close
+    (tie.spec
+    Inv-loop
+    μ-loop
+    record-length-requires
+    loop-holds
+    start-byte-requires
+    slice-write-cubes
+    add-k
+    loop-less
+    loop-again
+    same-length
+    returns)

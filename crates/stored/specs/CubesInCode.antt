@@ -1,0 +1,38 @@
+-- How the code keeps cubes one after the other in a buffer; nothing here has to be believed. Assumes nothing.
+use mathlib.Core.Bool.{Bool, true, false}
+use mathlib.Core.List.{List, _∷_}
+use Prim.Native.Nat.{ℕ, zero, suc, _+_, _*_, _-_}
+use lib.Bits.{bitAnd}
+use lib.Dec.{eqb}
+use lib.ListN.{getD, replicate}
+use Rattle.three.specs.Lists.{tabulate, every}
+use Rattle.three.specs.Value.{unknown, low}
+use Rattle.three.specs.Cube.{Cube}
+use Rattle.circuit.specs.declared.Counts.{Counts}
+use Rattle.pass.specs.ValuesInCode.{Begins}
+use Rattle.cubes.specs.Run.{startField}
+
+-- the fields of cube 0, from the table's words
+unfoldable pub startFields : List ℕ → ℕ → Cube
+startFields words count = tabulate count (λ i. startField (getD words (2 * i + 1) 0))
+
+-- a record's byte with its held fields set to X
+unfoldable pub keptByte : ℕ → ℕ → ℕ
+keptByte byte held = bitAnd byte (255 - held)
+
+-- len bytes of b with the held latches set to X
+unfoldable pub keptBytes : ℕ → List ℕ → List ℕ → List ℕ
+keptBytes len held b = tabulate len (λ i. keptByte (getD b i 0) (getD held i 0))
+
+-- the stored record at byte `at` covers b: no bit of its bytes is missing in b's
+unfoldable pub coversFrom : ℕ → List ℕ → List ℕ → ℕ → Bool
+coversFrom len cubes b at = every len (λ i. eqb (bitAnd (getD cubes (at + i) 0) (getD b i 0)) (getD cubes (at + i) 0))
+
+-- the first number below n at which p holds, or n
+unfoldable pub first : ℕ → (ℕ → Bool) → ℕ
+first zero p = 0
+first (suc n) p = elim (p 0) [ true ↦ 0 | false ↦ suc (first n (λ i. p (suc i))) ]
+
+-- a working table with the constant and all switches X
+abbrev pub Ready : Counts → List ℕ → Type 0
+Ready c table = Begins table (low ∷ replicate (c .inputs) unknown)

@@ -1,0 +1,112 @@
+// Cubes in a buffer: cube 0, the next state of a stored cube, the search (document 01, Run).
+use circuit::Counts;
+ghost use mathlib.Core.Path.{_≡_};
+ghost use Prim.Native.Nat.{_+_, _*_, _-_, _<_, _≤_};
+ghost use lib.ListN.{length, getD, drop};
+ghost use lib.Seq.{paste};
+ghost use Rattle.three.specs.Lists.{over};
+ghost use Rattle.three.specs.Value.{unknown, code};
+ghost use Rattle.three.specs.Record.{bytesFor, byteAt, pack, unpack, IsRecord};
+ghost use Rattle.circuit.specs.Table.{circuitOf};
+ghost use Rattle.circuit.specs.RulesInCode.{Legal};
+ghost use Rattle.cubes.specs.Run.{nextCube};
+ghost use Rattle.stored.specs.CubesInCode.{startFields, keptByte, keptBytes, coversFrom, first, Ready};
+
+// Field number i of cube 0; a field beyond the latches is X.
+fn start_field(table: &[u16], count: usize, i: usize) -> u8
+    requires { ⌜ (2 * count ≤ length (now table)) × (count ≤ 512) ⌝ }
+    ensures { λ r. ⌜ r ≡ code (getD (startFields (now (table .entry)) count) i unknown) ⌝ }
+{
+    if i >= count {
+        return 0;
+    }
+    if table[2 * i + 1] == 0 {
+        return 1;
+    }
+    2
+}
+
+fn start_byte(table: &[u16], count: usize, k: usize) -> u8
+    requires { ⌜ (2 * count ≤ length (now table)) × (count ≤ 512) × (k < 4096) ⌝ }
+    ensures { λ r. ⌜ r ≡ byteAt (startFields (now (table .entry)) count) k ⌝ }
+{
+    let i = 4 * k;
+    let a = start_field(table, count, i);
+    let b = start_field(table, count, i + 1);
+    let c = start_field(table, count, i + 2);
+    let d = start_field(table, count, i + 3);
+    three::byte_of(a, b, c, d)
+}
+
+// "Cube 0 is the resets."
+pub fn store_start(table: &[u16], count: usize, cubes: &mut [u8])
+    requires { ⌜ (2 * count ≤ length (now table)) × (count ≤ 512) × (bytesFor count ≤ length (now cubes)) ⌝ }
+    ensures { λ _. ⌜ now (cubes .exit) ≡ over (pack (startFields (now (table .entry)) count)) (now (cubes .entry)) ⌝ }
+{
+    for k in 0..three::record_length(count) {
+        cubes[k] = start_byte(table, count, k);
+    }
+}
+
+// A record's byte with its held fields set to X.
+fn kept(byte: u8, held: u8) -> u8
+    ensures { λ r. ⌜ r ≡ keptByte byte held ⌝ }
+{
+    byte & (255 - held)
+}
+
+// The record b with held latches set to X, into `out` from byte `at` on.
+pub fn store_kept(b: &[u8], held: [u8; 128], len: usize, out: &mut [u8], at: usize)
+    requires { ⌜ (len ≤ 128) × (len ≤ length (now b)) × (at + len ≤ length (now out)) ⌝ }
+    ensures { λ _. ⌜ now (out .exit) ≡ paste (now (out .entry)) at (keptBytes len held (now (b .entry))) len ⌝ }
+{
+    for i in 0..len {
+        out[at + i] = kept(b[i], held[i]);
+    }
+}
+
+// The run's b after the cube at byte `at`: its next state, with held latches set to X.
+pub fn reach(
+    counts: Counts,
+    table: &[u16],
+    cubes: &[u8],
+    at: usize,
+    held: [u8; 128],
+    values: &mut [u8; 4096],
+    b: &mut [u8; 128],
+)
+    requires { ⌜ Legal counts (now table) × (at ≤ length (now cubes)) × IsRecord (counts .latches) (drop at (now cubes)) × Ready counts (now values) × (length (now b) ≡ 128) ⌝ }
+    ensures { λ _. ⌜ Ready counts (now (values .exit)) × (now (b .exit) ≡ paste (now (b .entry)) 0 (keptBytes (bytesFor (counts .latches)) held (pack (nextCube (circuitOf counts (now (table .entry))) (unpack (counts .latches) (drop at (now (cubes .entry))))))) (bytesFor (counts .latches))) ⌝ }
+{
+    pass::settle_state(counts, table, &cubes[at..], values);
+    let mut next = [0u8; 128];
+    pass::store(values, table, 0, 2, counts.latches, &mut next);
+    store_kept(&next, held, three::record_length(counts.latches), b, 0);
+}
+
+// "The search is for the first stored cube that subsumes b": its number, or n where none of the n does.
+pub fn search(cubes: &[u8], len: usize, n: usize, b: &[u8]) -> usize
+    requires { ⌜ (n * len ≤ length (now cubes)) × (len ≤ length (now b)) ⌝ }
+    ensures { λ r. ⌜ r ≡ first n (λ k. coversFrom len (now (cubes .entry)) (now (b .entry)) (k * len)) ⌝ }
+{
+    let mut k = 0;
+    let mut at = 0;
+    let j = 'stored: loop {
+        if k == n {
+            break n;
+        }
+        let mut i = 0;
+        while i < len {
+            let c = cubes[at + i];
+            let d = b[i];
+            if c & d != c {
+                k += 1;
+                at += len;
+                continue 'stored;
+            }
+            i += 1;
+        }
+        break k;
+    };
+    j
+}
