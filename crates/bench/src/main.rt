@@ -1,6 +1,6 @@
 // The bench circuits of document 01: each text is read and run by the code, and its line shows what came of it.
-use libc::STDOUT_FILENO;
 use cubes::RunAnswer;
+use libc::STDOUT_FILENO;
 
 const T: [u8; 20] = *b"aag 1 0 1 1 0\n2 3\n2\n";
 

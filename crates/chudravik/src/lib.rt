@@ -1,7 +1,7 @@
 // The C interface (include/chudravik.h): each public call under its C name, with the same contract, and nothing else.
 use circuit::Counts;
-use reader::ReadAnswer;
 use cubes::RunAnswer;
+use reader::ReadAnswer;
 use writer::WriteAnswer;
 ghost use Rattle.tick.specs.Tick.{Ticked};
 ghost use Rattle.text.specs.Calls.{Reading, Writing};

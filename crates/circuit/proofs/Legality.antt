@@ -52,4 +52,3 @@ module _ (c : Counts) (table : List ℕ) where
 
   pub legal : 0 ≡ refusal (circuitTests c table) → Legal c table
   legal e = legal-passed (passes (circuitTests c table) circuit-numbered e)
-

@@ -16,9 +16,10 @@ use Rattle.text.specs.Part.{got}
 use Rattle.text.specs.Outcome.{accepted, refused, onward, leaves}
 use Rattle.text.specs.Text.{readBody, header, countsOf, headerTests, readText}
 use Rattle.text.specs.Calls.{zeros, Reading}
-use Rattle.reader.specs.declared.ReadLine.{ReadLine}
+use Rattle.lines.specs.declared.ReadLine.{ReadLine}
 use Rattle.reader.specs.declared.Judgement.{Judgement}
-use Rattle.reader.specs.Reader.{from, numbersOf, LineFound, verdict, answer, BodyAt, TextJudged, bodyWords, stand, Fillable}
+use Rattle.lines.specs.LinesInCode.{from, numbersOf, LineFound}
+use Rattle.reader.specs.ReaderInCode.{verdict, answer, BodyAt, TextJudged, bodyWords, stand, Fillable}
 use Rattle.circuit.proofs.Refusals.{passes}
 use Rattle.text.proofs.Tables.{passed-bounded}
 use Rattle.text.proofs.Steps.{text-long, header-ill, header-stops, header-fits}

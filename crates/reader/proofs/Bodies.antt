@@ -16,13 +16,14 @@ use Rattle.text.specs.Part.{Part, got, ill}
 use Rattle.text.specs.Line.{strip, splitLine}
 use Rattle.text.specs.Outcome.{Outcome, accepted, refused, after, onward}
 use Rattle.text.specs.Text.{fits, lineTests, ends, readBody}
-use Rattle.reader.specs.declared.ReadLine.{ReadLine}
+use Rattle.lines.specs.declared.ReadLine.{ReadLine}
 use Rattle.reader.specs.declared.Judged.{Judged}
-use Rattle.reader.specs.Reader.{from, counted, numbersOf, LineFound, verdict, answer, LinesJudged, latchesOn, lampsOn, gatesOn}
-use Rattle.text.specs.Coded.{coded}
+use Rattle.lines.specs.LinesInCode.{from, counted, numbersOf, LineFound}
+use Rattle.reader.specs.ReaderInCode.{verdict, answer, LinesJudged, latchesOn, lampsOn, gatesOn}
+use Rattle.text.specs.KindsInCode.{coded}
 use Rattle.text.proofs.Outcomes.{refused-accepted}
 use Rattle.text.proofs.Steps.{end-stops, end-fits, line-ill, line-stops, line-fits}
-use Rattle.reader.proofs.Finding.{from-end, from-byte}
+use Rattle.lines.proofs.Numbers.{from-end, from-byte}
 use Rattle.text.proofs.Tables.{linesFrom, lines-first, lines-next, lines-last}
 use Rattle.reader.proofs.Judging.{line-count}
 

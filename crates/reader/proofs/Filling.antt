@@ -13,8 +13,9 @@ use Rattle.circuit.specs.Table.{top, Kind, input, latch, lamp, gate, several, r
 use Rattle.text.specs.Line.{splitLine}
 use Rattle.text.specs.Outcome.{accepted, leaves}
 use Rattle.text.specs.Text.{words, lineTests, readBody}
-use Rattle.reader.specs.declared.ReadLine.{ReadLine}
-use Rattle.reader.specs.Reader.{from, numbersOf, LineFound, pairOf, WordsFit, bodyWords, Stand, stand, Fillable, Filled}
+use Rattle.lines.specs.declared.ReadLine.{ReadLine}
+use Rattle.lines.specs.LinesInCode.{from, numbersOf, LineFound}
+use Rattle.reader.specs.ReaderInCode.{pairOf, WordsFit, bodyWords, Stand, stand, Fillable, Filled}
 use Rattle.text.proofs.Steps.{end-accepted, LineRead, line-accepted}
 use Rattle.reader.proofs.Bodies.{line-read}
 use Rattle.text.proofs.Stores.{sets-append, sets-front}

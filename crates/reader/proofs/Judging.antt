@@ -13,12 +13,12 @@ use Rattle.circuit.specs.Refusal.{Test, _or_, refusal}
 use Rattle.circuit.specs.Table.{variables, ceilingTests, Kind, input, latch, lamp, gate, rowTests}
 use Rattle.circuit.specs.RulesInCode.{Bounded}
 use Rattle.circuit.proofs.Refusals.{stops, past, none}
-use Rattle.reader.specs.declared.ReadLine.{ReadLine}
+use Rattle.lines.specs.declared.ReadLine.{ReadLine}
 use Rattle.text.specs.Text.{fits, owns, words, lineTests, countsOf, headerTests}
-use Rattle.reader.specs.Reader.{Shape, numbersOf}
+use Rattle.lines.specs.LinesInCode.{Shape, numbersOf}
 use Rattle.text.proofs.Outcomes.{passed-refusal}
 use Rattle.text.proofs.Tables.{bounded-passed}
-use Rattle.reader.proofs.Finding.{line-length}
+use Rattle.lines.proofs.Finding.{line-length}
 
 -- a test with the number that the others give anyway
 either : (b : Bool) (ts : List Test) {k : ℕ} → k ≡ refusal ts → k ≡ refusal (b or k ∷ ts)

@@ -1,4 +1,4 @@
-pub mod Finding
+pub mod Opening
 pub mod Judging
 pub mod Bodies
 pub mod Filling

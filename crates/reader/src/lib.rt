@@ -1,5 +1,6 @@
 // The reader of a circuit's text (document 01, Text).
 use circuit::Counts;
+use lines::ReadLine;
 use text::GATE_LINE;
 use text::INPUT_LINE;
 use text::LAMP_LINE;
@@ -7,147 +8,21 @@ use text::LATCH_LINE;
 use text::MAGIC;
 ghost use mathlib.Core.Path.{_≡_};
 ghost use Prim.Native.Nat.{ℕ, _≤_, _<_, _+_, _*_};
-ghost use lib.ListN.{length, getD};
+ghost use lib.ListN.{length};
 ghost use mathlib.Core.List.{List, [], _∷_};
 ghost use lib.Seq.{sets};
 ghost use Rattle.three.specs.Lists.{over};
 ghost use Rattle.circuit.specs.Refusal.{refusal};
 ghost use Rattle.circuit.specs.Table.{top, input, latch, lamp, gate, several, kinds};
 ghost use Rattle.circuit.specs.RulesInCode.{Bounded};
-ghost use Rattle.text.specs.Decimal.{mayGrow, readNumber};
-ghost use Rattle.text.specs.Line.{splitLine};
 ghost use Rattle.text.specs.Text.{lineTests, ends, readBody, header as firstLine, countsOf, headerTests};
 ghost use Rattle.text.specs.Calls.{zeros, Reading};
-ghost use Rattle.reader.specs.Reader.{from, leading, NumberFound, FoundInLine, Shape, numbersOf, LineFound, opened, verdict, answer, LinesJudged, TextJudged, pairOf, WordsFit, bodyWords, stand, latchesOn, lampsOn, gatesOn, Fillable, Filled};
-ghost use Rattle.text.specs.Coded.{coded};
+ghost use Rattle.lines.specs.LinesInCode.{from, Shape, numbersOf, LineFound};
+ghost use Rattle.reader.specs.ReaderInCode.{opened, verdict, answer, LinesJudged, TextJudged, pairOf, WordsFit, bodyWords, stand, latchesOn, lampsOn, gatesOn, Fillable, Filled};
+ghost use Rattle.text.specs.KindsInCode.{coded};
 
 // "At most 60,000 bytes."
 const MOST_TEXT: usize = 60000;
-
-// A number at a position, and the position behind it.
-enum ReadNumber {
-    Value(usize, usize),
-    NoNumber,
-}
-
-// The same with the byte behind it, a line end or a space.
-enum InLine {
-    Last(usize, usize),
-    More(usize, usize),
-    NotInLine,
-}
-
-// The numbers of a line, none where it is ill-formed, and the position behind it. No line has more than the first, with five.
-struct ReadLine {
-    count: usize,
-    numbers: [usize; 5],
-    next: usize,
-}
-
-// The digit at a position, and 10 where there is none.
-fn digit_at(text: &[u8], at: usize) -> usize
-    ensures { λ r. ⌜ r ≡ leading (from (now (text .entry)) at) ⌝ }
-{
-    if at >= text.len() {
-        return 10;
-    }
-    let b = text[at];
-    if b < b'0' {
-        return 10;
-    }
-    if b > b'9' {
-        return 10;
-    }
-    (b - b'0') as usize
-}
-
-// "one to five digits and no leading zero except `0` itself": another digit may follow.
-fn may_grow(value: usize) -> bool
-    ensures { λ r. ⌜ r ≡ mayGrow value ⌝ }
-{
-    if value == 0 {
-        return false;
-    }
-    value < 10000
-}
-
-fn number(text: &[u8], at: usize) -> ReadNumber
-    ensures { λ r. ⌜ NumberFound (now (text .entry)) (readNumber (from (now (text .entry)) at)) r ⌝ }
-{
-    let mut value = digit_at(text, at);
-    if value > 9 {
-        return ReadNumber::NoNumber;
-    }
-    let mut next = at + 1;
-    loop {
-        let d = digit_at(text, next);
-        if d > 9 {
-            return ReadNumber::Value(value, next);
-        }
-        if !may_grow(value) {
-            return ReadNumber::NoNumber;
-        }
-        value = value * 10 + d;
-        next += 1;
-    }
-}
-
-// "one space between; each line ends in byte 10"
-fn number_in_line(text: &[u8], at: usize) -> InLine
-    ensures { λ r. ⌜ FoundInLine (now (text .entry)) (from (now (text .entry)) at) r ⌝ }
-{
-    let found = number(text, at);
-    let ReadNumber::Value(value, end) = found else {
-        return InLine::NotInLine;
-    };
-    if end >= text.len() {
-        return InLine::NotInLine; // a line without its end
-    }
-    if text[end] == 10 {
-        return InLine::Last(value, end + 1);
-    }
-    if text[end] == b' ' {
-        return InLine::More(value, end + 1);
-    }
-    InLine::NotInLine
-}
-
-fn line(text: &[u8], at: usize, most: usize) -> ReadLine
-    requires { ⌜ (at ≤ length (now text)) × (most ≤ 5) ⌝ }
-    ensures { λ r. ⌜ LineFound (now (text .entry)) (splitLine most (from (now (text .entry)) at)) r ⌝ }
-{
-    let mut numbers = [0usize; 5];
-    let mut next = at;
-    for k in 0..most {
-        let found = number_in_line(text, next);
-        match found {
-            InLine::Last(value, end) => {
-                numbers[k] = value;
-                return ReadLine {
-                    count: k + 1,
-                    numbers: numbers,
-                    next: end,
-                };
-            }
-            InLine::More(value, end) => {
-                numbers[k] = value;
-                next = end;
-            }
-            InLine::NotInLine => {
-                return ReadLine {
-                    count: 0,
-                    numbers: numbers,
-                    next: at,
-                };
-            }
-        }
-    }
-    ReadLine {
-        count: 0,
-        numbers: numbers,
-        next: at,
-    }
-}
 
 fn opens(text: &[u8]) -> bool
     ensures { λ r. ⌜ r ≡ opened (now (text .entry)) ⌝ }
@@ -173,19 +48,7 @@ fn header(text: &[u8]) -> ReadLine
             next: 0,
         };
     }
-    line(text, 4, 5)
-}
-
-// Number i of a line, and 0 where it is absent.
-fn entry(found: ReadLine, i: usize) -> usize
-    requires { ⌜ i < 5 ⌝ }
-    ensures { λ r. ⌜ r ≡ getD (numbersOf found) i 0 ⌝ }
-{
-    if i >= found.count {
-        return 0;
-    }
-    let numbers = found.numbers;
-    numbers[i]
+    lines::line(text, 4, 5)
 }
 
 // I, L, O and A of the first line.
@@ -193,10 +56,10 @@ fn counts_of(first: ReadLine) -> Counts
     ensures { λ r. ⌜ r ≡ countsOf (numbersOf first) ⌝ }
 {
     Counts {
-        inputs: entry(first, 1),
-        latches: entry(first, 2),
-        lamps: entry(first, 3),
-        gates: entry(first, 4),
+        inputs: lines::entry(first, 1),
+        latches: lines::entry(first, 2),
+        lamps: lines::entry(first, 3),
+        gates: lines::entry(first, 4),
     }
 }
 
@@ -221,7 +84,7 @@ fn header_refusal(first: ReadLine) -> u32
     if counts.gates > circuit::MOST_GATES {
         return 3;
     }
-    if entry(first, 0) != counts.inputs + counts.latches + counts.gates {
+    if lines::entry(first, 0) != counts.inputs + counts.latches + counts.gates {
         return 3;
     }
     0
@@ -234,7 +97,7 @@ fn input_refusal(own: usize, found: ReadLine) -> u32
     if found.count != 1 {
         return 4;
     }
-    if entry(found, 0) != own {
+    if lines::entry(found, 0) != own {
         return 5;
     }
     0
@@ -250,13 +113,13 @@ fn latch_refusal(own: usize, most: usize, found: ReadLine) -> u32
     if found.count > 3 {
         return 4;
     }
-    if entry(found, 0) != own {
+    if lines::entry(found, 0) != own {
         return 5;
     }
-    if entry(found, 1) > most {
+    if lines::entry(found, 1) > most {
         return 6;
     }
-    if entry(found, 2) > 1 {
+    if lines::entry(found, 2) > 1 {
         return 8;
     }
     0
@@ -269,7 +132,7 @@ fn lamp_refusal(most: usize, found: ReadLine) -> u32
     if found.count != 1 {
         return 4;
     }
-    if entry(found, 0) > most {
+    if lines::entry(found, 0) > most {
         return 6;
     }
     0
@@ -282,12 +145,12 @@ fn gate_refusal(own: usize, most: usize, found: ReadLine) -> u32
     if found.count != 3 {
         return 4;
     }
-    let given = entry(found, 0);
+    let given = lines::entry(found, 0);
     if given != own {
         return 5;
     }
-    let left = entry(found, 1);
-    let right = entry(found, 2);
+    let left = lines::entry(found, 1);
+    let right = lines::entry(found, 2);
     if left > most {
         return 6; // 6 comes before 7
     }
@@ -330,7 +193,7 @@ fn judge_line(text: &[u8], at: usize, kind: u8, own: usize, most: usize) -> Judg
     requires { ⌜ at ≤ length (now text) ⌝ }
     ensures { λ r. ⌜ LinesJudged (now (text .entry)) at most (λ ks. coded kind own ∷ ks) r ⌝ }
 {
-    let found = line(text, at, 3);
+    let found = lines::line(text, at, 3);
     Judged {
         number: line_refusal(kind, own, most, found),
         next: found.next,
@@ -447,8 +310,8 @@ fn fill_pair(found: ReadLine, table: &mut [u16], p: usize)
     requires { ⌜ WordsFit (pairOf (numbersOf found)) p (now table) ⌝ }
     ensures { λ _. ⌜ now (table .exit) ≡ sets (now (table .entry)) p (pairOf (numbersOf found)) ⌝ }
 {
-    table[p] = entry(found, 1) as u16;
-    table[p + 1] = entry(found, 2) as u16;
+    table[p] = lines::entry(found, 1) as u16;
+    table[p + 1] = lines::entry(found, 2) as u16;
 }
 
 // The lines of the inputs have no words; the position behind them.
@@ -458,7 +321,7 @@ fn skip_inputs(text: &[u8], at: usize, counts: Counts) -> usize
 {
     let mut next = at;
     for i in 0..counts.inputs {
-        let found = line(text, next, 3);
+        let found = lines::line(text, next, 3);
         next = found.next;
     }
     next
@@ -471,7 +334,7 @@ fn fill_latches(text: &[u8], at: usize, counts: Counts, table: &mut [u16]) -> us
 {
     let mut next = at;
     for i in 0..counts.latches {
-        let found = line(text, next, 3);
+        let found = lines::line(text, next, 3);
         fill_pair(found, table, 2 * i);
         next = found.next;
     }
@@ -486,8 +349,8 @@ fn fill_lamps(text: &[u8], at: usize, counts: Counts, table: &mut [u16]) -> usiz
     let first = 2 * counts.latches;
     let mut next = at;
     for i in 0..counts.lamps {
-        let found = line(text, next, 3);
-        table[first + i] = entry(found, 0) as u16;
+        let found = lines::line(text, next, 3);
+        table[first + i] = lines::entry(found, 0) as u16;
         next = found.next;
     }
     next
@@ -501,7 +364,7 @@ fn fill_gates(text: &[u8], at: usize, counts: Counts, table: &mut [u16]) -> usiz
     let first = 2 * counts.latches + counts.lamps;
     let mut next = at;
     for i in 0..counts.gates {
-        let found = line(text, next, 3);
+        let found = lines::line(text, next, 3);
         fill_pair(found, table, first + 2 * i);
         next = found.next;
     }

@@ -1,4 +1,2 @@
-pub mod Putting
-pub mod Rows
 pub mod Reporting
 pub mod Determined

@@ -10,27 +10,27 @@ use Rattle.three.specs.Record.{bytesFor, unpack}
 use Rattle.circuit.specs.declared.Counts.{Counts}
 use Rattle.circuit.specs.Circuit.{Circuit}
 use Rattle.circuit.specs.Refusal.{refusal}
-use Rattle.circuit.specs.Table.{tableLength, circuitOf}
+use Rattle.circuit.specs.Table.{tableLength, circuitOf, circuitTests}
 use Rattle.circuit.specs.RulesInCode.{Bounded}
-use Rattle.circuit.specs.Table.{circuitTests}
 use Rattle.circuit.proofs.Beyond.{circuit-front}
 use Rattle.text.specs.Outcome.{Outcome, accepted, refused, numberOf, leaves}
 use Rattle.text.specs.Text.{Content, readText}
-use Rattle.writer.specs.Written.{Put}
+use Rattle.putting.specs.PutInCode.{Put}
 use Rattle.text.specs.Calls.{readInto, zeros, Reading}
 use Rattle.text.proofs.Answers.{read-stops, read-fits}
 use Rattle.text.proofs.Grammar.{describes}
 use Rattle.text.proofs.Tables.{taken}
 use Rattle.text.proofs.RoundTrip.{Carries, read-carries}
-use Rattle.writer.proofs.Putting.{put-over}
+use Rattle.putting.proofs.Putting.{put-over}
 use Rattle.text.proofs.Numbers.{read-numbered}
 use Rattle.cubes.specs.declared.RunAnswer.{RunAnswer}
 use Rattle.cubes.specs.Run.{run}
 use Rattle.cubes.specs.Call.{roomIn, Given, refusedBy, circuitIn, outcomeIn, Runs}
 use Rattle.run.proofs.Refusing.{run-passes}
 use Rattle.cubes.proofs.Promising.{outcome-is, verdict-is, settled-is, count-is, only-full}
-use Rattle.report.specs.declared.Row.{Row}
-use Rattle.report.specs.Report.{rows, closing, refusing, closedReport, ended, runReport, reported, reportOf, Reported}
+use Rattle.rows.specs.declared.Row.{Row}
+use Rattle.rows.specs.Rows.{rows}
+use Rattle.report.specs.Report.{closing, refusing, closedReport, ended, runReport, reported, reportOf, Reported}
 
 -- a report that is put from the front
 pub put-report : {text out out′ : List ℕ} {r : ℕ} (report : List ℕ) → report ≡ reportOf text → Put out 0 report out′ r × (r ≤ length out) → Reported text out r out′

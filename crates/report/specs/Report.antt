@@ -1,40 +1,19 @@
 -- The report (document 01, the report program): what is printed for the bytes on standard input. In a quoted text `/` stands for byte 10. Assumes nothing.
 use mathlib.Core.Path.{_≡_}
-use mathlib.Core.List.{List, [], _∷_, _++_}
-use Prim.Native.Nat.{ℕ, suc, _/_, _≤_}
+use mathlib.Core.List.{List, _++_}
+use Prim.Native.Nat.{ℕ, _/_, _≤_}
 use lib.ListN.{length}
 use Rattle.three.specs.Lists.{over}
-use Rattle.three.specs.Value.{Three, unknown, low, high}
 use Rattle.three.specs.Cube.{Cube, knownFields}
 use Rattle.three.specs.Record.{bytesFor}
 use Rattle.circuit.specs.Circuit.{Circuit}
 use Rattle.circuit.specs.Table.{circuitOf}
-use Rattle.text.specs.Decimal.{decimal}
 use Rattle.text.specs.Outcome.{Outcome, accepted, refused}
 use Rattle.text.specs.Text.{Content, readText}
 use Rattle.text.specs.Bench.{bytes}
 use Rattle.cubes.specs.Run.{cubeAt, Outcome as Ending, closed, full, run, verdict, settled}
-use Rattle.report.specs.declared.Row.{Row}
-
--- a name and its number
-unfoldable pub item : List ℕ → ℕ → List ℕ
-item name n = name ++ decimal n
-
--- what is said of a field: of 0, of 1, and of X
-unfoldable pub said : List ℕ → List ℕ → List ℕ → Three → List ℕ
-said off on either low = off
-said off on either high = on
-said off on either unknown = either
-
--- the line of lamp or latch number i
-unfoldable pub row : Row → ℕ → Three → List ℕ
-row Row.Lamp i v = item (bytes "lamp ") i ++ said (bytes " never/") (bytes " always/") (bytes " open/") v
-row Row.Latch i v = item (bytes "latch ") i ++ said (bytes " 0/") (bytes " 1/") (bytes " -/") v
-
--- a line for each field, numbered from i on
-unfoldable pub rows : Row → ℕ → Cube → List ℕ
-rows r i [] = []
-rows r i (v ∷ vs) = row r i v ++ rows r (suc i) vs
+use Rattle.rows.specs.declared.Row.{Row}
+use Rattle.rows.specs.Rows.{item, rows}
 
 -- the line on closure
 unfoldable pub closing : ℕ → ℕ → ℕ → List ℕ

@@ -1,16 +1,17 @@
 // The report program (document 01): a circuit's text on standard input, the report on standard output.
 use circuit::Counts;
+use cubes::RunAnswer;
 use libc::STDIN_FILENO;
 use libc::STDOUT_FILENO;
-use cubes::RunAnswer;
+use rows::Row;
 ghost use mathlib.Core.List.{_++_};
 ghost use Prim.Native.Nat.{_+_, _*_, _≤_};
 ghost use lib.ListN.{length};
-ghost use Rattle.three.specs.Value.{decode};
 ghost use Rattle.three.specs.Record.{unpack};
-ghost use Rattle.writer.specs.Written.{Put};
-ghost use Rattle.report.specs.declared.Row.{Row};
-ghost use Rattle.report.specs.Report.{item, said, row as rowText, rows, closing, refusing, Reported};
+ghost use Rattle.putting.specs.PutInCode.{Put};
+ghost use Rattle.rows.specs.declared.Row.{Row};
+ghost use Rattle.rows.specs.Rows.{rows};
+ghost use Rattle.report.specs.Report.{closing, refusing, Reported};
 
 // "takes w = 16 and a cube buffer of 65,536 bytes"
 const INTERVAL: usize = 16;
@@ -23,83 +24,15 @@ const TABLE_WORDS: usize = 7742;
 // The report on any circuit fits: 100 bytes for the first line, 34 for each lamp and latch.
 const REPORT_BYTES: usize = 20000;
 
-// What a line of the report is about.
-enum Row {
-    Lamp,
-    Latch,
-}
-
-fn put_bytes(out: &mut [u8], at: usize, text: &[u8]) -> usize
-    requires { ⌜ at + length (now text) ≤ length (now out) ⌝ }
-    ensures { λ r. ⌜ Put (now (out .entry)) at (now (text .entry)) (now (out .exit)) r ⌝ }
-{
-    for i in 0..text.len() {
-        out[at + i] = text[i];
-    }
-    at + text.len()
-}
-
-// A name and its number, which has at most 20 digits.
-fn put_item(out: &mut [u8], at: usize, name: &[u8], n: usize) -> usize
-    requires { ⌜ at + length (now name) + 20 ≤ length (now out) ⌝ }
-    ensures { λ r. ⌜ Put (now (out .entry)) at (item (now (name .entry)) n) (now (out .exit)) r × (r ≤ at + length (now (name .entry)) + 20) ⌝ }
-{
-    let number = put_bytes(out, at, name);
-    writer::put_number(out, number, n)
-}
-
-// What is said of a field: of 0, of 1, and of X.
-fn put_said(out: &mut [u8], at: usize, field: u8, off: &[u8], on: &[u8], either: &[u8]) -> usize
-    requires { ⌜ (at + length (now off) ≤ length (now out)) × (at + length (now on) ≤ length (now out)) × (at + length (now either) ≤ length (now out)) ⌝ }
-    ensures { λ r. ⌜ Put (now (out .entry)) at (said (now (off .entry)) (now (on .entry)) (now (either .entry)) (decode field)) (now (out .exit)) r ⌝ }
-{
-    if field == 0 {
-        return put_bytes(out, at, either);
-    }
-    if field == 1 {
-        return put_bytes(out, at, off);
-    }
-    put_bytes(out, at, on)
-}
-
-// "each lamp, numbered from 0, with never, always or open; then each latch, numbered from 0, with its settled value, 0 or 1, or `-`": the line of number i.
-fn put_row(out: &mut [u8], at: usize, row: Row, i: usize, field: u8) -> usize
-    requires { ⌜ at + 34 ≤ length (now out) ⌝ }
-    ensures { λ r. ⌜ Put (now (out .entry)) at (rowText row i (decode field)) (now (out .exit)) r × (r ≤ at + 34) ⌝ }
-{
-    match row {
-        Row::Lamp => {
-            let word = put_item(out, at, b"lamp ", i);
-            put_said(out, word, field, b" never\n", b" always\n", b" open\n")
-        }
-        Row::Latch => {
-            let word = put_item(out, at, b"latch ", i);
-            put_said(out, word, field, b" 0\n", b" 1\n", b" -\n")
-        }
-    }
-}
-
-// A line for each field of a record.
-fn put_rows(out: &mut [u8], start: usize, row: Row, fields: &[u8], count: usize) -> usize
-    requires { ⌜ (start + 34 * count ≤ length (now out)) × (count ≤ 4 * length (now fields)) ⌝ }
-    ensures { λ r. ⌜ Put (now (out .entry)) start (rows row 0 (unpack count (now (fields .entry)))) (now (out .exit)) r × (r ≤ start + 34 * count) ⌝ }
-{
-    let mut end = start;
-    for i in 0..count {
-        end = put_row(out, end, row, i, three::field(fields, i));
-    }
-    end
-}
-
 // "one line on closure with n, j, s"
 fn put_closing(out: &mut [u8], n: usize, j: usize, s: usize) -> usize
     requires { ⌜ 100 ≤ length (now out) ⌝ }
     ensures { λ r. ⌜ Put (now (out .entry)) 0 (closing n j s) (now (out .exit)) r × (r ≤ 100) ⌝ }
 {
-    let back = put_item(out, 0, b"cubes ", n);
-    let settled = put_item(out, back, b" back ", j);
-    let end = put_item(out, settled, b" settled ", s);
-    put_bytes(out, end, b"\n")
+    let back = rows::put_item(out, 0, b"cubes ", n);
+    let settled = rows::put_item(out, back, b" back ", j);
+    let end = rows::put_item(out, settled, b" settled ", s);
+    rows::put_bytes(out, end, b"\n")
 }
 
 // "On a refusal its only line is `refused` and the number."
@@ -107,8 +40,8 @@ fn put_refusal(out: &mut [u8], number: u32) -> usize
     requires { ⌜ 100 ≤ length (now out) ⌝ }
     ensures { λ r. ⌜ Put (now (out .entry)) 0 (refusing number) (now (out .exit)) r × (r ≤ length (now (out .entry))) ⌝ }
 {
-    let end = put_item(out, 0, b"refused ", number as usize);
-    put_bytes(out, end, b"\n")
+    let end = rows::put_item(out, 0, b"refused ", number as usize);
+    rows::put_bytes(out, end, b"\n")
 }
 
 // Closure; then each lamp; then each latch.
@@ -123,8 +56,8 @@ fn put_closed(
     ensures { λ r. ⌜ Put (now (out .entry)) 0 (closing (answer .cubes) (answer .back) (answer .settled) ++ (rows Row.Lamp 0 (unpack (counts .lamps) (now (verdict .entry))) ++ rows Row.Latch 0 (unpack (counts .latches) (now (settled .entry))))) (now (out .exit)) r × (r ≤ length (now (out .entry))) ⌝ }
 {
     let lamps = put_closing(out, answer.cubes, answer.back, answer.settled);
-    let latches = put_rows(out, lamps, Row::Lamp, verdict, counts.lamps);
-    put_rows(out, latches, Row::Latch, settled, counts.latches)
+    let latches = rows::put_rows(out, lamps, Row::Lamp, verdict, counts.lamps);
+    rows::put_rows(out, latches, Row::Latch, settled, counts.latches)
 }
 
 // The report on a text, at the front of the buffer; how many bytes it has. Nothing is relied on: any text may be handed in.

@@ -1,6 +1,6 @@
 // The public run (document 01, Run).
-use cubes::RunAnswer;
 use circuit::Counts;
+use cubes::RunAnswer;
 ghost use mathlib.Core.Path.{_≡_};
 ghost use Prim.Native.Nat.{_-_, _<_};
 ghost use Rattle.three.specs.Lists.{over};

@@ -3,7 +3,7 @@ use mathlib.Core.Path.{_≡_, refl}
 use Prim.Native.Nat.{ℕ, zero, suc, _≤_}
 use native.Mathlib.Omega.{arith}
 use Rattle.circuit.specs.Table.{input, latch, lamp, gate, width}
-use Rattle.text.specs.Coded.{coded}
+use Rattle.text.specs.KindsInCode.{coded}
 
 pub width-some : (k own : ℕ) → (k ≡ 0 → ⊥) → 1 ≤ width (coded k own)
 unfolding coded width

@@ -6,4 +6,4 @@ pub mod Text
 pub mod Calls
 pub mod Bench
 pub mod Edges
-pub mod Coded
+pub mod KindsInCode

@@ -1,4 +1,3 @@
-pub mod Putting
 pub mod WrittenLine
 pub mod DigitCounts
 pub mod WrittenLines

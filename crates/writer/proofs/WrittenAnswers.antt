@@ -10,11 +10,12 @@ use Rattle.circuit.specs.Refusal.{refusal}
 use Rattle.circuit.specs.Table.{circuitTests}
 use Rattle.text.specs.Text.{writeText}
 use Rattle.text.specs.Calls.{Writing}
-use Rattle.writer.specs.Written.{Put, Ready}
+use Rattle.putting.specs.PutInCode.{Put}
+use Rattle.writer.specs.WriterInCode.{Ready}
 use Rattle.text.proofs.Tables.{Taken, taken}
 use Rattle.text.proofs.Bound.{text-bound}
 use Rattle.text.proofs.Answers.{write-stops, write-short, write-fits, writing-refused, writing-accepted}
-use Rattle.writer.proofs.Putting.{put-over}
+use Rattle.putting.proofs.Putting.{put-over}
 
 -- 3, 10 for the table, 11
 pub written-stops : (c : Counts) (table buffer : List ℕ) (n : ℕ) → n ≡ refusal (circuitTests c table) → (n ≡ 0 → ⊥) → Writing c table buffer n 0 buffer

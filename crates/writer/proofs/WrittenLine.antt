@@ -12,9 +12,9 @@ use Rattle.writer.specs.declared.LineNumbers.{LineNumbers}
 use Rattle.text.specs.Decimal.{decimal}
 use Rattle.text.specs.Line.{newline, space, lineText}
 use Rattle.text.specs.Text.{magic, headNumbers, shown, numbers}
-use Rattle.text.specs.Coded.{coded}
+use Rattle.text.specs.KindsInCode.{coded}
 use Rattle.text.proofs.Coding.{width-two, coded-gate}
-use Rattle.writer.specs.Written.{andMore, lineNumbers, countNumbers, Shows}
+use Rattle.writer.specs.WriterInCode.{andMore, lineNumbers, countNumbers, Shows}
 
 -- ---- by how many numbers it has
 

@@ -10,8 +10,9 @@ use Rattle.circuit.specs.Table.{several, width}
 use Rattle.writer.specs.declared.LineNumbers.{LineNumbers}
 use Rattle.text.specs.Line.{lineText}
 use Rattle.text.specs.Text.{numbers, writeBody}
-use Rattle.text.specs.Coded.{coded}
-use Rattle.writer.specs.Written.{Put, lineNumbers, Shows, block, Lines}
+use Rattle.text.specs.KindsInCode.{coded}
+use Rattle.putting.specs.PutInCode.{Put}
+use Rattle.writer.specs.WriterInCode.{lineNumbers, Shows, block, Lines}
 use Rattle.text.proofs.Stores.{sets-append}
 use Rattle.text.proofs.Coding.{width-alike}
 

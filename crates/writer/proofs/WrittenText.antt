@@ -10,9 +10,10 @@ use Rattle.circuit.specs.declared.Counts.{Counts}
 use Rattle.circuit.specs.Table.{Kind, several, kinds, width}
 use Rattle.text.specs.Line.{lineText}
 use Rattle.text.specs.Text.{magic, headNumbers, writeBody, writeText}
-use Rattle.text.specs.Coded.{coded}
-use Rattle.writer.specs.Written.{Put, block, Lines, Ready}
-use Rattle.writer.proofs.Putting.{put-then}
+use Rattle.text.specs.KindsInCode.{coded}
+use Rattle.putting.specs.PutInCode.{Put}
+use Rattle.writer.specs.WriterInCode.{block, Lines, Ready}
+use Rattle.putting.proofs.Putting.{put-then}
 use Rattle.text.proofs.Coding.{width-alike}
 
 body-split : (k own n : ℕ) (ks : List Kind) (ws : List ℕ)

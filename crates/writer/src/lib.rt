@@ -8,23 +8,16 @@ use text::MAGIC;
 ghost use mathlib.Core.Path.{_≡_};
 ghost use Prim.Native.Nat.{_≤_, _<_, _+_, _*_};
 ghost use lib.ListN.{length};
-ghost use mathlib.Core.List.{[], _∷_, _++_};
+ghost use mathlib.Core.List.{_++_};
 ghost use Rattle.circuit.specs.RulesInCode.{Bounded};
 ghost use Rattle.circuit.specs.Table.{width};
 ghost use Rattle.text.specs.Decimal.{decimal};
 ghost use Rattle.text.specs.Line.{lineText};
 ghost use Rattle.text.specs.Text.{magic, headNumbers, writeText};
 ghost use Rattle.text.specs.Calls.{Writing};
-ghost use Rattle.text.specs.Coded.{coded};
-ghost use Rattle.writer.specs.Written.{Put, lineNumbers, countNumbers, Small, Shows, block, Lines, Ready};
-
-fn put_byte(text: &mut [u8], at: usize, byte: u8) -> usize
-    requires { ⌜ at < length (now text) ⌝ }
-    ensures { λ r. ⌜ Put (now (text .entry)) at (byte ∷ []) (now (text .exit)) r ⌝ }
-{
-    text[at] = byte;
-    at + 1
-}
+ghost use Rattle.text.specs.KindsInCode.{coded};
+ghost use Rattle.putting.specs.PutInCode.{Put};
+ghost use Rattle.writer.specs.WriterInCode.{lineNumbers, countNumbers, Small, Shows, block, Lines, Ready};
 
 // "`aag` and a space"
 fn put_magic(text: &mut [u8]) -> usize
@@ -38,86 +31,6 @@ fn put_magic(text: &mut [u8]) -> usize
     4
 }
 
-fn put_digit(text: &mut [u8], at: usize, d: usize) -> usize
-    requires { ⌜ (d < 10) × (at < length (now text)) ⌝ }
-    ensures { λ r. ⌜ Put (now (text .entry)) at ((48 + d) ∷ []) (now (text .exit)) r ⌝ }
-{
-    put_byte(text, at, 48 + d as u8)
-}
-
-// A number of one digit, and below of two, three and four; the most significant digit comes first.
-fn put_one(text: &mut [u8], at: usize, n: usize) -> usize
-    requires { ⌜ (n < 10) × (at + length (decimal n) ≤ length (now text)) ⌝ }
-    ensures { λ r. ⌜ Put (now (text .entry)) at (decimal n) (now (text .exit)) r ⌝ }
-{
-    put_digit(text, at, n)
-}
-
-fn put_two(text: &mut [u8], at: usize, n: usize) -> usize
-    requires { ⌜ (10 ≤ n) × (n < 100) × (at + length (decimal n) ≤ length (now text)) ⌝ }
-    ensures { λ r. ⌜ Put (now (text .entry)) at (decimal n) (now (text .exit)) r ⌝ }
-{
-    let last = put_one(text, at, n / 10);
-    put_digit(text, last, n % 10)
-}
-
-fn put_three(text: &mut [u8], at: usize, n: usize) -> usize
-    requires { ⌜ (100 ≤ n) × (n < 1000) × (at + length (decimal n) ≤ length (now text)) ⌝ }
-    ensures { λ r. ⌜ Put (now (text .entry)) at (decimal n) (now (text .exit)) r ⌝ }
-{
-    let last = put_two(text, at, n / 10);
-    put_digit(text, last, n % 10)
-}
-
-fn put_four(text: &mut [u8], at: usize, n: usize) -> usize
-    requires { ⌜ (1000 ≤ n) × (n < 10000) × (at + length (decimal n) ≤ length (now text)) ⌝ }
-    ensures { λ r. ⌜ Put (now (text .entry)) at (decimal n) (now (text .exit)) r ⌝ }
-{
-    let last = put_three(text, at, n / 10);
-    put_digit(text, last, n % 10)
-}
-
-// A number of any length, by a call for each digit.
-fn put_long(text: &mut [u8], at: usize, n: usize) -> usize
-    requires { ⌜ at + length (decimal n) ≤ length (now text) ⌝ }
-    ensures { λ r. ⌜ Put (now (text .entry)) at (decimal n) (now (text .exit)) r ⌝ }
-{
-    if n < 10 {
-        return put_one(text, at, n);
-    }
-    let last = put_long(text, at, n / 10);
-    put_digit(text, last, n % 10)
-}
-
-// "no leading zero except `0` itself". A text's numbers have at most four digits: they are put without a call for each digit.
-pub fn put_number(text: &mut [u8], at: usize, n: usize) -> usize
-    requires { ⌜ at + length (decimal n) ≤ length (now text) ⌝ }
-    ensures { λ r. ⌜ Put (now (text .entry)) at (decimal n) (now (text .exit)) r ⌝ }
-{
-    if n < 10 {
-        return put_one(text, at, n);
-    }
-    if n < 100 {
-        return put_two(text, at, n);
-    }
-    if n < 1000 {
-        return put_three(text, at, n);
-    }
-    if n < 10000 {
-        return put_four(text, at, n);
-    }
-    put_long(text, at, n)
-}
-
-// A number and the byte behind it.
-fn put_word(text: &mut [u8], at: usize, n: usize, behind: u8) -> usize
-    requires { ⌜ at + length (decimal n) < length (now text) ⌝ }
-    ensures { λ r. ⌜ Put (now (text .entry)) at (decimal n ++ (behind ∷ [])) (now (text .exit)) r × (r ≡ at + length (decimal n) + 1) ⌝ }
-{
-    let end = put_number(text, at, n);
-    put_byte(text, end, behind)
-}
-
 // A line's first number, 0, 1 or 2 more, and how many words of the table belong to it.
 struct LineNumbers {
     more: usize,
@@ -128,18 +41,18 @@ struct LineNumbers {
 }
 
 fn put_line(text: &mut [u8], at: usize, line: LineNumbers) -> usize
-    requires { ⌜ at + length (lineText (lineNumbers line)) ≤ length (now text) ⌝ }
+    requires { ⌜ Small line × (at + length (lineText (lineNumbers line)) ≤ length (now text)) ⌝ }
     ensures { λ r. ⌜ Put (now (text .entry)) at (lineText (lineNumbers line)) (now (text .exit)) r ⌝ }
 {
     if line.more == 0 {
-        return put_word(text, at, line.first, 10);
+        return putting::put_word(text, at, line.first, 10);
     }
-    let second = put_word(text, at, line.first, 32);
+    let second = putting::put_word(text, at, line.first, 32);
     if line.more == 1 {
-        return put_word(text, second, line.second, 10);
+        return putting::put_word(text, second, line.second, 10);
     }
-    let third = put_word(text, second, line.second, 32);
-    put_word(text, third, line.third, 10)
+    let third = putting::put_word(text, second, line.second, 32);
+    putting::put_word(text, third, line.third, 10)
 }
 
 // The line of a kind whose words stand at word `at`. "Written text gives the reset only where it is 1"
@@ -214,13 +127,13 @@ fn put_lines(
 
 // I L O A, and the newline.
 fn put_counts(text: &mut [u8], at: usize, counts: Counts) -> usize
-    requires { ⌜ at + length (lineText (countNumbers counts)) ≤ length (now text) ⌝ }
+    requires { ⌜ Bounded counts × (at + length (lineText (countNumbers counts)) ≤ length (now text)) ⌝ }
     ensures { λ r. ⌜ Put (now (text .entry)) at (lineText (countNumbers counts)) (now (text .exit)) r ⌝ }
 {
-    let latches = put_word(text, at, counts.inputs, 32);
-    let lamps = put_word(text, latches, counts.latches, 32);
-    let gates = put_word(text, lamps, counts.lamps, 32);
-    put_word(text, gates, counts.gates, 10)
+    let latches = putting::put_word(text, at, counts.inputs, 32);
+    let lamps = putting::put_word(text, latches, counts.latches, 32);
+    let gates = putting::put_word(text, lamps, counts.lamps, 32);
+    putting::put_word(text, gates, counts.gates, 10)
 }
 
 // "then M I L O A and a newline"
@@ -229,7 +142,7 @@ fn put_header(text: &mut [u8], counts: Counts) -> usize
     ensures { λ r. ⌜ Put (now (text .entry)) 0 (magic ++ lineText (headNumbers counts)) (now (text .exit)) r ⌝ }
 {
     let variables = put_magic(text);
-    let inputs = put_word(
+    let inputs = putting::put_word(
         text,
         variables,
         counts.inputs + counts.latches + counts.gates,

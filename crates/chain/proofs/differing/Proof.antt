@@ -1,4 +1,4 @@
--- `run::differing` meets its contract: it is the definition, and three times at most 85. Assumes nothing.
+-- `chain::differing` meets its contract: it is the definition, and three times at most 85. Assumes nothing.
 use mathlib.Core.Path.{refl}
 use Rattle.chain.specs.ChainInCode.{differingByte}
 use Rattle.chain.proofs.Keeping.{differing-small}

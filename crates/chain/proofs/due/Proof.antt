@@ -1,4 +1,4 @@
--- `run::due` meets its contract: the two cases of the definition. Assumes nothing.
+-- `chain::due` meets its contract: the two cases of the definition. Assumes nothing.
 use Rattle.chain.proofs.Keeping.{never-due, due-divides}
 use borrow.Author.Needs.{needs}
 use Rattle.chain.proofs.due.Statement.{statement}

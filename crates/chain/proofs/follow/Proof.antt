@@ -1,4 +1,4 @@
--- `run::follow` meets its contract: each turn stores a cube more, or closes the run, or finds no room. Assumes nothing.
+-- `chain::follow` meets its contract: each turn stores a cube more, or closes the run, or finds no room. Assumes nothing.
 use mathlib.Core.Path.{refl, sym}
 use Prim.Native.Nat.{_-_}
 use Rattle.pass.proofs.Settling.{fresh}

@@ -1,4 +1,4 @@
--- `run::held_after` meets its contract: it goes by whether b is due. Assumes nothing.
+-- `chain::held_after` meets its contract: it goes by whether b is due. Assumes nothing.
 use mathlib.Core.Path.{_∙_}
 use borrow.Author.Tests.{not-true, not-false}
 use Rattle.chain.proofs.Keeping.{held-same, held-wider}

@@ -1,4 +1,4 @@
--- `run::make_chain` meets its contract: cube 0 is stored, and followed. Assumes nothing.
+-- `chain::make_chain` meets its contract: cube 0 is stored, and followed. Assumes nothing.
 use mathlib.Core.Path.{refl}
 use Rattle.chain.proofs.Following.{start-followable, chained-from}
 use borrow.Author.Needs.{needs}

@@ -1,4 +1,4 @@
--- `run::widen` meets its contract: the bytes are widened in turn. Assumes nothing.
+-- `chain::widen` meets its contract: the bytes are widened in turn. Assumes nothing.
 use Prim.Native.Nat.{_-_}
 use lib.ListN.{drop}
 use Rattle.three.proofs.Lists.{Stored, stored-first, stored-last}

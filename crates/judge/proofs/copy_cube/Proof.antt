@@ -1,4 +1,4 @@
--- `run::copy_cube` meets its contract: the bytes are copied in turn. Assumes nothing.
+-- `judge::copy_cube` meets its contract: the bytes are copied in turn. Assumes nothing.
 use Prim.Native.Nat.{_-_}
 use lib.ListN.{drop}
 use Rattle.three.proofs.Lists.{Stored, stored-first, stored-last}

@@ -1,4 +1,4 @@
--- `run::judge_lamps` meets its contract: the lamps of each cube are merged into those of the cubes before it. Assumes nothing.
+-- `judge::judge_lamps` meets its contract: the lamps of each cube are merged into those of the cubes before it. Assumes nothing.
 use mathlib.Core.Path.{_≡_, refl, sym, _∙_}
 use Prim.Native.Nat.{_-_, _≤_}
 use lib.ListN.{length}

@@ -1,4 +1,4 @@
--- `run::lamps_at` meets its contract: a pass is made over the cube, and its lamps are stored. Assumes nothing.
+-- `judge::lamps_at` meets its contract: a pass is made over the cube, and its lamps are stored. Assumes nothing.
 use Rattle.three.proofs.Filling.{over-fields}
 use Rattle.three.proofs.Pack.{length-unpack}
 use Rattle.pass.proofs.Settling.{lamps-readable}

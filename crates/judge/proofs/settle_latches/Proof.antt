@@ -1,4 +1,4 @@
--- `run::settle_latches` meets its contract: the cubes from j on are merged one after the other. Assumes nothing.
+-- `judge::settle_latches` meets its contract: the cubes from j on are merged one after the other. Assumes nothing.
 use Prim.Native.Nat.{_-_, _≤_}
 use Rattle.judge.proofs.Judging.{Settled, latch-place, cube-record, settled-first, settled-record, settled-length, settled-next, settled-last}
 use native.Mathlib.Omega.{arith}

@@ -1,4 +1,4 @@
--- `circuit::gate` meets its contract: the gate table is looked up at the operands' values. Assumes nothing.
+-- `pass::gate` meets its contract: the gate table is looked up at the operands' values. Assumes nothing.
 use mathlib.Core.Path.{ap₂, _∙_}
 use Rattle.three.specs.Value.{code, both}
 use Rattle.three.proofs.Filling.{is-small, is-decoded}

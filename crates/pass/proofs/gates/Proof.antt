@@ -1,4 +1,4 @@
--- `circuit::gates` meets its contract: each gate is taken in turn, as `Turn` says. Assumes nothing.
+-- `pass::gates` meets its contract: each gate is taken in turn, as `Turn` says. Assumes nothing.
 use Prim.Native.Nat.{_-_}
 use Rattle.pass.specs.ValuesInCode.{Working, valuesOf}
 use Rattle.three.proofs.Filling.{is-small, is-decoded}

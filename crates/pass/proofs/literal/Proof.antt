@@ -1,4 +1,4 @@
--- `circuit::literal` meets its contract: its variable's value is looked up in the table of signs. Assumes nothing.
+-- `pass::literal` meets its contract: its variable's value is looked up in the table of signs. Assumes nothing.
 use Rattle.three.proofs.Filling.{is-small}
 use Rattle.pass.proofs.Values.{value-signed}
 use borrow.Author.Needs.{needs}

@@ -1,4 +1,4 @@
--- `circuit::literal_byte` meets its contract: its four fields are read, and packed. Assumes nothing.
+-- `pass::literal_byte` meets its contract: its four fields are read, and packed. Assumes nothing.
 use Rattle.three.proofs.Filling.{is-small, four-fields}
 use borrow.Author.Needs.{needs}
 use Rattle.pass.proofs.literal_byte.Statement.{statement}

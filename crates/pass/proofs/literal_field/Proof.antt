@@ -1,4 +1,4 @@
--- `circuit::literal_field` meets its contract: a literal within the count is read, and one beyond is X. Assumes nothing.
+-- `pass::literal_field` meets its contract: a literal within the count is read, and one beyond is X. Assumes nothing.
 use mathlib.Core.Path.{ap, _∙_}
 use Rattle.three.specs.Value.{code}
 use Rattle.pass.proofs.Values.{literal-within, literal-beyond}

@@ -1,4 +1,4 @@
--- `circuit::load` meets its contract: the fields are stored in turn. Assumes nothing.
+-- `pass::load` meets its contract: the fields are stored in turn. Assumes nothing.
 use Prim.Native.Nat.{_-_}
 use Rattle.three.specs.Record.{unpack}
 use Rattle.three.proofs.Lists.{Stored, stored-first, stored-last}

@@ -1,4 +1,4 @@
--- `circuit::settle` meets its contract: the constant and the switches are put in front of the state. Assumes nothing.
+-- `pass::settle` meets its contract: the constant and the switches are put in front of the state. Assumes nothing.
 use Rattle.three.proofs.Pack.{length-unpack}
 use Rattle.pass.proofs.Settling.{settle-begins}
 use borrow.Author.Needs.{needs}

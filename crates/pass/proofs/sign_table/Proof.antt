@@ -1,4 +1,4 @@
--- `circuit::sign_table` meets its contract: the table's rows are the values as they are read, which antt computes and compares. Assumes nothing.
+-- `pass::sign_table` meets its contract: the table's rows are the values as they are read, which antt computes and compares. Assumes nothing.
 use mathlib.Core.Path.{refl}
 use Rattle.three.specs.Lists.{tabulate}
 use Rattle.three.specs.Value.{code, decode, inverse, ternary}

@@ -1,4 +1,4 @@
--- `circuit::variable` meets its contract: an entry is the code of its variable's value. Assumes nothing.
+-- `pass::variable` meets its contract: an entry is the code of its variable's value. Assumes nothing.
 use Rattle.pass.proofs.Values.{variable-value}
 use borrow.Author.Needs.{needs}
 use Rattle.pass.proofs.variable.Statement.{statement}

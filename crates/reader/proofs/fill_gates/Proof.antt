@@ -5,7 +5,7 @@ use Prim.Native.Nat.{_+_, _*_, _-_}
 use native.Mathlib.Omega.{arith}
 use Rattle.circuit.specs.declared.Counts.{Counts}
 use Rattle.circuit.specs.Table.{gate}
-use Rattle.reader.specs.Reader.{gatesOn, stand, Fillable}
+use Rattle.reader.specs.ReaderInCode.{gatesOn, stand, Fillable}
 use Rattle.reader.proofs.Filling.{gate-words, Filling, filling-first, filling-fits, filling-next, filling-last}
 use Rattle.reader.proofs.fill_gates.Statement.{statement}
 use Rattle.reader.proofs.fill_gates.Tie as tie

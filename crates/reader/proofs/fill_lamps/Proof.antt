@@ -4,7 +4,7 @@ use Prim.Native.Nat.{_+_, _-_}
 use native.Mathlib.Omega.{arith}
 use Rattle.circuit.specs.declared.Counts.{Counts}
 use Rattle.circuit.specs.Table.{lamp}
-use Rattle.reader.specs.Reader.{lampsOn, gatesOn, stand, Fillable}
+use Rattle.reader.specs.ReaderInCode.{lampsOn, gatesOn, stand, Fillable}
 use Rattle.reader.proofs.Filling.{lamp-words, Filling, filling-first, filling-fits, filling-next, filling-last}
 use Rattle.reader.proofs.fill_lamps.Statement.{statement}
 use Rattle.reader.proofs.fill_lamps.Tie as tie

@@ -4,7 +4,7 @@ use Prim.Native.Nat.{_+_, _*_, _-_}
 use native.Mathlib.Omega.{arith}
 use Rattle.circuit.specs.declared.Counts.{Counts}
 use Rattle.circuit.specs.Table.{latch}
-use Rattle.reader.specs.Reader.{latchesOn, lampsOn, stand, Fillable}
+use Rattle.reader.specs.ReaderInCode.{latchesOn, lampsOn, stand, Fillable}
 use Rattle.reader.proofs.Filling.{latch-words, Filling, filling-first, filling-fits, filling-next, filling-last}
 use Rattle.reader.proofs.fill_latches.Statement.{statement}
 use Rattle.reader.proofs.fill_latches.Tie as tie

@@ -1,6 +1,6 @@
 -- `reader::header` meets its contract: the four bytes, and then a line. Assumes nothing.
 use borrow.Author.Tests.{not-true, not-false}
-use Rattle.reader.proofs.Finding.{opened-long, header-none, header-line}
+use Rattle.reader.proofs.Opening.{opened-long, header-none, header-line}
 use native.Mathlib.Omega.{arith}
 use borrow.Author.Needs.{needs}
 use Rattle.reader.proofs.header.Statement.{statement}

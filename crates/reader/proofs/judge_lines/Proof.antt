@@ -1,6 +1,6 @@
 -- `reader::judge_lines` meets its contract: each line is judged in turn, as `Turns` says. Assumes nothing.
 use Prim.Native.Nat.{_-_}
-use Rattle.text.specs.Coded.{coded}
+use Rattle.text.specs.KindsInCode.{coded}
 use Rattle.reader.proofs.Bodies.{Turns, turns-first, turns-next, turns-stop, turns-last}
 use native.Mathlib.Omega.{arith}
 use Rattle.reader.proofs.judge_lines.Statement.{statement}

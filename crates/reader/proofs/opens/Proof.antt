@@ -6,7 +6,7 @@ use lib.Dec.{eqb}
 use lib.ListN.{getD}
 use Rattle.three.proofs.Lists.{Tried, tried-first, tried-next, tried-fails, tried-all}
 use Rattle.text.specs.Text.{magic}
-use Rattle.reader.proofs.Finding.{opened-short, opened-alike}
+use Rattle.reader.proofs.Opening.{opened-short, opened-alike}
 use native.Mathlib.Omega.{arith}
 use Rattle.reader.proofs.opens.Statement.{statement}
 use Rattle.reader.proofs.opens.Tie as tie

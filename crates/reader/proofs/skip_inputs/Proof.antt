@@ -6,7 +6,7 @@ use lib.ListN.{length}
 use native.Mathlib.Omega.{arith}
 use Rattle.circuit.specs.declared.Counts.{Counts}
 use Rattle.circuit.specs.Table.{input, kinds}
-use Rattle.reader.specs.Reader.{latchesOn, stand, Fillable}
+use Rattle.reader.specs.ReaderInCode.{latchesOn, stand, Fillable}
 use Rattle.reader.proofs.Filling.{input-words, Filling, filling-first, filling-next, filling-last}
 use Rattle.reader.proofs.skip_inputs.Statement.{statement}
 use Rattle.reader.proofs.skip_inputs.Tie as tie

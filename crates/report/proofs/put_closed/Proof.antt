@@ -1,11 +1,11 @@
 -- `report::put_closed` meets its contract: the line on closure, the lamps and the latches, one behind the other. Assumes nothing.
 use native.Mathlib.Omega.{arith}
-use Rattle.writer.proofs.Putting.{put-then}
+use Rattle.putting.proofs.Putting.{put-then}
 use borrow.Author.Needs.{needs}
 use Rattle.report.proofs.put_closed.Statement.{statement}
 use Rattle.report.proofs.put_closed.Tie as tie
 use Rattle.report.proofs.put_closing.Reads as put-closing-reads
-use Rattle.report.proofs.put_rows.Reads as put-rows-reads
+use Rattle.rows.proofs.put_rows.Reads as put-rows-reads
 
 put-closing-requires : tie.Need-put-closing-requires
 put-closing-requires c κs = search needs

@@ -1,13 +1,13 @@
 -- `report::put_closing` meets its contract: three numbers with their names, one behind the other. Assumes nothing.
 use native.Mathlib.Omega.{arith}
 use Rattle.text.specs.Bench.{bytes}
-use Rattle.writer.proofs.Putting.{put-then}
+use Rattle.putting.proofs.Putting.{put-then}
 use Rattle.report.specs.Report.{closing}
 use borrow.Author.Needs.{needs}
 use Rattle.report.proofs.put_closing.Statement.{statement}
 use Rattle.report.proofs.put_closing.Tie as tie
-use Rattle.report.proofs.put_bytes.Reads as put-bytes-reads
-use Rattle.report.proofs.put_item.Reads as put-item-reads
+use Rattle.rows.proofs.put_bytes.Reads as put-bytes-reads
+use Rattle.rows.proofs.put_item.Reads as put-item-reads
 
 slice-aggregate-put-item : tie.Need-slice-aggregate-put-item
 slice-aggregate-put-item c = search needs

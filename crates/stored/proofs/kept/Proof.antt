@@ -1,4 +1,4 @@
--- `run::kept` meets its contract: it is the definition. Assumes nothing.
+-- `stored::kept` meets its contract: it is the definition. Assumes nothing.
 use mathlib.Core.Path.{refl}
 use Rattle.stored.specs.CubesInCode.{keptByte}
 use borrow.Author.Needs.{needs}

@@ -1,4 +1,4 @@
--- `run::reach` meets its contract: a pass is made over the state, and its next state is stored without the held latches. Assumes nothing.
+-- `stored::reach` meets its contract: a pass is made over the state, and its next state is stored without the held latches. Assumes nothing.
 use Rattle.three.proofs.Pack.{length-unpack}
 use Rattle.pass.proofs.Settling.{next-readable}
 use Rattle.stored.proofs.Reaching.{part-tail, ready-settles, ready-again, reach-stored}

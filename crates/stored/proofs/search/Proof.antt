@@ -1,4 +1,4 @@
--- `run::search` meets its contract: records are passed in turn; the inner loop changes neither k nor at. Assumes nothing.
+-- `stored::search` meets its contract: records are passed in turn; the inner loop changes neither k nor at. Assumes nothing.
 use mathlib.Core.Path.{_≡_, refl}
 use Prim.Native.Nat.{_-_}
 use Rattle.stored.proofs.Searching.{Outer, Inner, outer-first, inner-first, inner-next, clash, found, missing}

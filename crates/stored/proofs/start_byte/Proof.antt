@@ -1,4 +1,4 @@
--- `run::start_byte` meets its contract: its four fields are read, and packed. Assumes nothing.
+-- `stored::start_byte` meets its contract: its four fields are read, and packed. Assumes nothing.
 use Rattle.three.proofs.Filling.{is-small, four-fields}
 use borrow.Author.Needs.{needs}
 use Rattle.stored.proofs.start_byte.Statement.{statement}

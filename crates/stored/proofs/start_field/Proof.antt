@@ -1,4 +1,4 @@
--- `run::start_field` meets its contract: a reset of 0 is known 0, and one of 1 known 1. Assumes nothing.
+-- `stored::start_field` meets its contract: a reset of 0 is known 0, and one of 1 known 1. Assumes nothing.
 use Rattle.stored.proofs.Starting.{start-beyond, start-low, start-high}
 use borrow.Author.Needs.{needs}
 use Rattle.stored.proofs.start_field.Statement.{statement}

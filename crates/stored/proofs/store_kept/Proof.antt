@@ -1,4 +1,4 @@
--- `run::store_kept` meets its contract: the bytes are stored in turn. Assumes nothing.
+-- `stored::store_kept` meets its contract: the bytes are stored in turn. Assumes nothing.
 use Prim.Native.Nat.{_-_}
 use Rattle.three.proofs.Lists.{Stored, stored-first, stored-last}
 use Rattle.stored.specs.CubesInCode.{keptBytes}

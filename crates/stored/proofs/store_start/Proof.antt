@@ -1,4 +1,4 @@
--- `run::store_start` meets its contract: its bytes are stored in turn. Assumes nothing.
+-- `stored::store_start` meets its contract: its bytes are stored in turn. Assumes nothing.
 use Prim.Native.Nat.{_-_}
 use Rattle.three.specs.Record.{bytesFor, pack}
 use Rattle.three.proofs.Lists.{Stored, stored-first}

@@ -1,4 +1,4 @@
--- `circuit::gate_kept` meets its contract: its two tests are rule 7. Assumes nothing.
+-- `table::gate_kept` meets its contract: its two tests are rule 7. Assumes nothing.
 use Prim.Native.Nat.{_+_}
 use borrow.Author.Tests.{le-ltb, lt-ltb}
 use Rattle.circuit.specs.RulesInCode.{gateKept}

@@ -1,4 +1,4 @@
--- `circuit::lamps_kept` meets its contract: each line is tried in turn. Assumes nothing.
+-- `table::lamps_kept` meets its contract: each line is tried in turn. Assumes nothing.
 use mathlib.Core.Path.{refl}
 use Prim.Native.Nat.{_+_, _-_}
 use borrow.Author.Tests.{lt-leb, le-leb}

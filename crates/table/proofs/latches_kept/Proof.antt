@@ -1,4 +1,4 @@
--- `circuit::latches_kept` meets its contract: each line is tried in turn. Assumes nothing.
+-- `table::latches_kept` meets its contract: each line is tried in turn. Assumes nothing.
 use Prim.Native.Nat.{_*_, _-_}
 use borrow.Author.Tests.{not-true, not-false}
 use Rattle.three.proofs.Lists.{Tried, tried-first, tried-next, tried-fails, tried-all}

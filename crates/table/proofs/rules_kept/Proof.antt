@@ -1,4 +1,4 @@
--- `circuit::rules_kept` meets its contract: the table is checked kind by kind, in the order of its words. Assumes nothing.
+-- `table::rules_kept` meets its contract: the table is checked kind by kind, in the order of its words. Assumes nothing.
 use borrow.Author.Tests.{not-true, not-false}
 use Rattle.circuit.proofs.Rules.{latches-break, lamps-break, gates-decide}
 use borrow.Author.Needs.{needs}

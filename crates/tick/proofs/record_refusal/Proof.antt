@@ -1,4 +1,4 @@
--- `circuit::record_refusal` meets its contract: its tests are made in the order of the list. Assumes nothing.
+-- `tick::record_refusal` meets its contract: its tests are made in the order of the list. Assumes nothing.
 use mathlib.Core.Path.{sym, _∙_}
 use native.Mathlib.Omega.{arith}
 use borrow.Author.Tests.{not-true, not-false}

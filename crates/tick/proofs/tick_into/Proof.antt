@@ -1,4 +1,4 @@
--- `circuit::tick_into` meets its contract: one pass is made, and its values are stored twice. Assumes nothing.
+-- `tick::tick_into` meets its contract: one pass is made, and its values are stored twice. Assumes nothing.
 use Rattle.three.proofs.Filling.{over-fields}
 use Rattle.three.proofs.Pack.{length-unpack}
 use Rattle.tick.specs.Tick.{nextFields, lampFields}

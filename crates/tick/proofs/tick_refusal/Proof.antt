@@ -1,4 +1,4 @@
--- `circuit::tick_refusal` meets its contract: its tests are made in the order of the list. Assumes nothing.
+-- `tick::tick_refusal` meets its contract: its tests are made in the order of the list. Assumes nothing.
 use native.Mathlib.Omega.{arith}
 use mathlib.Core.Path.{sym, _∙_}
 use Rattle.circuit.proofs.Legality.{legal}

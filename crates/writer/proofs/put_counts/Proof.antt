@@ -1,5 +1,5 @@
 -- `writer::put_counts` meets its contract: its numbers are put one behind the other. Assumes nothing.
-use Rattle.writer.proofs.Putting.{put-then}
+use Rattle.putting.proofs.Putting.{put-then}
 use Rattle.writer.proofs.WrittenLine.{counts-text, counts-length}
 use native.Mathlib.Omega.{arith}
 use Rattle.writer.proofs.put_counts.Statement.{statement}

@@ -1,5 +1,5 @@
 -- `writer::put_header` meets its contract: the four bytes, M, and the counts behind it. Assumes nothing.
-use Rattle.writer.proofs.Putting.{put-then}
+use Rattle.putting.proofs.Putting.{put-then}
 use Rattle.writer.proofs.WrittenLine.{head-text, head-length}
 use native.Mathlib.Omega.{arith}
 use Rattle.writer.proofs.put_header.Statement.{statement}
@@ -24,7 +24,7 @@ put-word-requires c κs =
 put-counts-requires : tie.Need-put-counts-requires
 put-counts-requires c κs =
     let start = c .before .before .before .before .before .before .before .before .before .before .before .before in
-    omega (arith, head-length (start .args .counts))
+    (start .pre .0, omega (arith, head-length (start .args .counts)))
 
 same-length : tie.Need-same-length
 same-length c = omega arith

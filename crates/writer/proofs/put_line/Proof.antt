@@ -1,5 +1,5 @@
 -- `writer::put_line` meets its contract: its numbers are put one behind the other. Assumes nothing.
-use Rattle.writer.proofs.Putting.{put-then}
+use Rattle.putting.proofs.Putting.{put-then}
 use Rattle.writer.proofs.WrittenLine.{none-line, none-length, one-line, some-length, two-line, two-length}
 use native.Mathlib.Omega.{arith}
 use Rattle.writer.proofs.put_line.Statement.{statement}

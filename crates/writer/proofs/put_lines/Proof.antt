@@ -18,7 +18,8 @@ written-line-requires : tie.Need-written-line-requires Inv-loop μ-loop
 written-line-requires c κs = (omega arith, word-room _ _ _ _ _ _ (c .before .loop .inv .lines) (c .loop-test .taken))
 
 put-line-requires : tie.Need-put-line-requires Inv-loop μ-loop
-put-line-requires c κs = omega (arith, line-room _ _ _ _ _ _ (c .before .before .before .loop .inv .lines) (c .before .before .loop-test .taken) (c .before .written-line .ensures))
+put-line-requires c κs =
+    (c .before .written-line .ensures .small, omega (arith, line-room _ _ _ _ _ _ (c .before .before .before .loop .inv .lines) (c .before .before .loop-test .taken) (c .before .written-line .ensures)))
 
 add-due : tie.Need-add-due Inv-loop μ-loop
 add-due c = omega arith

@@ -1,4 +1,4 @@
--- `run::advance` meets its contract: the held latches first, and then the cube. Assumes nothing.
+-- `chain::advance` meets its contract: the held latches first, and then the cube. Assumes nothing.
 use mathlib.Core.Path.{refl, _∙_}
 use Rattle.stored.proofs.Keeping.{behind-one}
 use Rattle.chain.proofs.Keeping.{due-held}

@@ -1,0 +1,130 @@
+-- Laws of a number in a line, and of a line, found at a position of a text. Assumes nothing.
+use mathlib.Core.Path.{_≡_, refl, sym, _∙_, ap}
+use mathlib.Core.List.{List, [], _∷_, _++_, append-assoc}
+use Prim.Native.Nat.{ℕ, suc, _+_, _-_, _≤_, _<_}
+use native.Mathlib.Numerals.{add-one}
+use native.Mathlib.Omega.{arith}
+use native.Mathlib.Nat.{sub-zero, min-le-left}
+use borrow.Author.Tests.{ne-eqb}
+use lib.ListN.{length, getD, set, take, length-set, length-take, List·getD-eq-default}
+use lib.Seq.{take-suc-set, getD-take, length-take-le}
+use Rattle.text.specs.Part.{Part, got, ill}
+use Rattle.text.specs.Decimal.{readNumber}
+use Rattle.text.specs.Line.{strip, prepend, splitLine}
+use Rattle.lines.specs.declared.ReadLine.{ReadLine}
+use Rattle.lines.specs.declared.ReadNumber.{ReadNumber}
+use Rattle.lines.specs.declared.ReadNumber.the-variants.{Value, NoNumber}
+use Rattle.lines.specs.declared.InLine.{InLine}
+use Rattle.lines.specs.declared.InLine.the-variants.{Last, More, NotInLine}
+use Rattle.lines.specs.LinesInCode.{from, numberPart, NumberFound, linePart, lineEnd, FoundInLine, counted, Shape, numbersOf, LineFound}
+use Rattle.text.proofs.Lines.{strip-none, strip-other, number-ill, number-last, number-more, number-other}
+use Rattle.lines.proofs.Numbers.{from-end, from-byte}
+
+-- ---- a number in a line: what stands behind it decides
+
+strip-byte : (b d : ℕ) (t : List ℕ) → (d ≡ b → ⊥) → strip (b ∷ []) (d ∷ t) ≡ ill
+strip-byte b d t h = strip-other b d [] t (ne-eqb b d (λ e. h (sym e)))
+
+module _ (text : List ℕ) (at : ℕ) {n : ReadNumber} (found : NumberFound text (readNumber (from text at)) n) where
+  pub in-line-none : n ≡ NoNumber → FoundInLine text (from text at) NotInLine
+  unfolding numberPart linePart lineEnd
+  in-line-none e = record { reads = λ most. number-ill most _ (found .reads ∙ rw e); within = omega arith }
+
+  module _ {v end : ℕ} (e : n ≡ Value v end) where
+    number-got : readNumber (from text at) ≡ got v (from text end)
+    unfolding numberPart
+    number-got = found .reads ∙ rw e
+
+    pub in-line-end : length text ≤ end → FoundInLine text (from text at) NotInLine
+    unfolding linePart lineEnd
+    in-line-end h = record {
+      reads = λ most. number-other most _ number-got (rw (from-end text end h) (strip-none 10 [])) (rw (from-end text end h) (strip-none 32 []));
+      within = omega arith;
+    }
+
+    module _ (h : end < length text) where
+      pub in-line-last : getD text end 0 ≡ 10 → FoundInLine text (from text at) (Last v (end + 1))
+      unfolding linePart lineEnd
+      in-line-last b = record { reads = λ most. number-last most _ number-got (from-byte text end h ∙ rw b); within = omega arith }
+
+      pub in-line-more : getD text end 0 ≡ 32 → FoundInLine text (from text at) (More v (end + 1))
+      unfolding linePart lineEnd
+      in-line-more b = record { reads = λ most. number-more most _ number-got (from-byte text end h ∙ rw b); within = omega arith }
+
+      pub in-line-other : (getD text end 0 ≡ 10 → ⊥) → (getD text end 0 ≡ 32 → ⊥) → FoundInLine text (from text at) NotInLine
+      unfolding linePart lineEnd
+      in-line-other b d = record {
+        reads = λ most. number-other most _ number-got (rw (from-byte text end h) (strip-byte 10 _ _ b)) (rw (from-byte text end h) (strip-byte 32 _ _ d));
+        within = omega arith;
+      }
+
+-- ---- a line: k numbers are read, and the next one stands at `next`
+
+-- these numbers in front of the numbers read
+unfoldable pub prependAll : List ℕ → Part (List ℕ) → Part (List ℕ)
+prependAll ns (got ms r) = got (ns ++ ms) r
+prependAll ns ill = ill
+
+prependAll-none : (p : Part (List ℕ)) → prependAll [] p ≡ p
+unfolding prependAll
+prependAll-none (got ms r) = refl
+prependAll-none ill = refl
+
+prependAll-prepend : (ns : List ℕ) (n : ℕ) (p : Part (List ℕ)) → prependAll ns (prepend n p) ≡ prependAll (ns ++ (n ∷ [])) p
+unfolding prependAll prepend
+prependAll-prepend ns n (got ms r) = ap (λ l. got l r) (sym (append-assoc ns (n ∷ []) ms))
+prependAll-prepend ns n ill = refl
+
+module _ (text : List ℕ) (at most : ℕ) where
+  pub record Pieces (numbers : List ℕ) (next k : ℕ) : Type 0 where
+    pub few : k ≤ most
+    pub long : length numbers ≡ 5
+    pub within : next ≤ length text
+    pub same : splitLine most (from text at) ≡ prependAll (take k numbers) (splitLine (most - k) (from text next))
+
+  pub pieces-first : (numbers : List ℕ) → length numbers ≡ 5 → at ≤ length text → Pieces numbers at 0
+  pieces-first numbers l h = record { few = omega arith; long = l; within = h; same = rw sub-zero (sym (prependAll-none _)) }
+
+  module _ (room : most ≤ 5) {numbers : List ℕ} {next k : ℕ} (s : Pieces numbers next k) where
+    pub pieces-end : at ≤ length text → most ≤ k → LineFound text (splitLine most (from text at)) (record { count = 0; numbers = numbers; next = at })
+    unfolding splitLine prependAll counted
+    pieces-end h e = record { reads = s .same ∙ let z : most - k ≡ 0 = omega arith in rw z; shape = record { few = omega arith; long = s .long }; within = h }
+
+    module _ (h : k < most) {n : InLine} (found : FoundInLine text (from text next) n) where
+      here : splitLine (most - k) (from text next) ≡ linePart text (most - (k + 1)) n
+      here = let z : most - k ≡ suc (most - (k + 1)) = omega arith in rw z (found .reads _)
+
+      pub pieces-ill : at ≤ length text → n ≡ NotInLine → LineFound text (splitLine most (from text at)) (record { count = 0; numbers = numbers; next = at })
+      unfolding linePart prependAll counted
+      pieces-ill a e = record { reads = s .same ∙ rw (here, e); shape = record { few = omega arith; long = s .long }; within = a }
+
+      pub pieces-last : {v end : ℕ} → n ≡ Last v end → LineFound text (splitLine most (from text at)) (record { count = k + 1; numbers = set numbers k v; next = end })
+      unfolding linePart lineEnd prependAll counted
+      pieces-last {v} {end} e = record {
+        reads = s .same ∙ rw (here, e, add-one, take-suc-set numbers k v (omega (arith, s .long)));
+        shape = record { few = omega arith; long = length-set numbers k v ∙ s .long };
+        within = rw e at (found .within);
+      }
+
+      pub pieces-more : {v end : ℕ} → n ≡ More v end → Pieces (set numbers k v) end (k + 1)
+      unfolding linePart lineEnd
+      pieces-more {v} {end} e = record {
+        few = omega arith;
+        long = length-set numbers k v ∙ s .long;
+        within = rw e at (found .within);
+        same = s .same ∙ rw (here, e, add-one, take-suc-set numbers k v (omega (arith, s .long))) (prependAll-prepend _ _ _);
+      }
+
+-- ---- a line's numbers
+
+pub line-length : (l : ReadLine) → Shape l → length (numbersOf l) ≡ l .count
+unfolding numbersOf
+line-length l s = length-take-le (l .count) (l .numbers) (omega arith)
+
+pub entry-absent : (l : ReadLine) (i : ℕ) → l .count ≤ i → 0 ≡ getD (numbersOf l) i 0
+unfolding numbersOf
+entry-absent l i h = sym (List·getD-eq-default (numbersOf l) 0 (rw length-take (omega (arith, min-le-left (l .count) (length (l .numbers))))))
+
+pub entry-given : (l : ReadLine) (i : ℕ) → i < l .count → getD (l .numbers) i 0 ≡ getD (numbersOf l) i 0
+unfolding numbersOf
+entry-given l i h = sym (getD-take (l .count) (l .numbers) i 0 h)

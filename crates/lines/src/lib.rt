@@ -1,0 +1,151 @@
+// Numbers and lines of a text (document 01, Text).
+use circuit::Counts;
+use text::GATE_LINE;
+use text::INPUT_LINE;
+use text::LAMP_LINE;
+use text::LATCH_LINE;
+use text::MAGIC;
+ghost use mathlib.Core.Path.{_≡_};
+ghost use Prim.Native.Nat.{_≤_, _<_, _+_, _*_};
+ghost use lib.ListN.{length, getD};
+ghost use Rattle.text.specs.Decimal.{mayGrow, readNumber};
+ghost use Rattle.text.specs.Line.{splitLine};
+ghost use Rattle.text.specs.Text.{ends};
+ghost use Rattle.lines.specs.LinesInCode.{from, leading, NumberFound, FoundInLine, numbersOf, LineFound};
+
+// A number at a position, and the position behind it.
+pub enum ReadNumber {
+    Value(usize, usize),
+    NoNumber,
+}
+
+// The same with the byte behind it, a line end or a space.
+pub enum InLine {
+    Last(usize, usize),
+    More(usize, usize),
+    NotInLine,
+}
+
+// The numbers of a line, none where it is ill-formed, and the position behind it. No line has more than the first, with five.
+pub struct ReadLine {
+    pub count: usize,
+    pub numbers: [usize; 5],
+    pub next: usize,
+}
+
+// The digit at a position, and 10 where there is none.
+fn digit_at(text: &[u8], at: usize) -> usize
+    ensures { λ r. ⌜ r ≡ leading (from (now (text .entry)) at) ⌝ }
+{
+    if at >= text.len() {
+        return 10;
+    }
+    let b = text[at];
+    if b < b'0' {
+        return 10;
+    }
+    if b > b'9' {
+        return 10;
+    }
+    (b - b'0') as usize
+}
+
+// "one to five digits and no leading zero except `0` itself": another digit may follow.
+fn may_grow(value: usize) -> bool
+    ensures { λ r. ⌜ r ≡ mayGrow value ⌝ }
+{
+    if value == 0 {
+        return false;
+    }
+    value < 10000
+}
+
+fn number(text: &[u8], at: usize) -> ReadNumber
+    ensures { λ r. ⌜ NumberFound (now (text .entry)) (readNumber (from (now (text .entry)) at)) r ⌝ }
+{
+    let mut value = digit_at(text, at);
+    if value > 9 {
+        return ReadNumber::NoNumber;
+    }
+    let mut next = at + 1;
+    loop {
+        let d = digit_at(text, next);
+        if d > 9 {
+            return ReadNumber::Value(value, next);
+        }
+        if !may_grow(value) {
+            return ReadNumber::NoNumber;
+        }
+        value = value * 10 + d;
+        next += 1;
+    }
+}
+
+// "one space between; each line ends in byte 10"
+fn number_in_line(text: &[u8], at: usize) -> InLine
+    ensures { λ r. ⌜ FoundInLine (now (text .entry)) (from (now (text .entry)) at) r ⌝ }
+{
+    let found = number(text, at);
+    let ReadNumber::Value(value, end) = found else {
+        return InLine::NotInLine;
+    };
+    if end >= text.len() {
+        return InLine::NotInLine; // a line without its end
+    }
+    if text[end] == 10 {
+        return InLine::Last(value, end + 1);
+    }
+    if text[end] == b' ' {
+        return InLine::More(value, end + 1);
+    }
+    InLine::NotInLine
+}
+
+pub fn line(text: &[u8], at: usize, most: usize) -> ReadLine
+    requires { ⌜ (at ≤ length (now text)) × (most ≤ 5) ⌝ }
+    ensures { λ r. ⌜ LineFound (now (text .entry)) (splitLine most (from (now (text .entry)) at)) r ⌝ }
+{
+    let mut numbers = [0usize; 5];
+    let mut next = at;
+    for k in 0..most {
+        let found = number_in_line(text, next);
+        match found {
+            InLine::Last(value, end) => {
+                numbers[k] = value;
+                return ReadLine {
+                    count: k + 1,
+                    numbers: numbers,
+                    next: end,
+                };
+            }
+            InLine::More(value, end) => {
+                numbers[k] = value;
+                next = end;
+            }
+            InLine::NotInLine => {
+                return ReadLine {
+                    count: 0,
+                    numbers: numbers,
+                    next: at,
+                };
+            }
+        }
+    }
+    ReadLine {
+        count: 0,
+        numbers: numbers,
+        next: at,
+    }
+}
+
+// Number i of a line, and 0 where it is absent.
+pub fn entry(found: ReadLine, i: usize) -> usize
+    requires { ⌜ i < 5 ⌝ }
+    ensures { λ r. ⌜ r ≡ getD (numbersOf found) i 0 ⌝ }
+{
+    if i >= found.count {
+        return 0;
+    }
+    let numbers = found.numbers;
+    numbers[i]
+}

@@ -1,0 +1,27 @@
+-- `putting::put_three` meets its contract: the first two digits, and then the last. Assumes nothing.
+use native.Mathlib.Omega.{arith}
+use Rattle.text.proofs.Decimals.{length-more}
+use Rattle.putting.proofs.Putting.{put-more}
+use Rattle.putting.proofs.put_three.Statement.{statement}
+use Rattle.putting.proofs.put_three.Tie as tie
+
+put-two-requires : tie.Need-put-two-requires
+put-two-requires c κs =
+    let start = c .before .before in
+    (omega arith, omega arith, omega (arith, length-more (start .args .n) (omega arith)))
+
+put-digit-requires : tie.Need-put-digit-requires
+put-digit-requires c κs =
+    let start = c .before .before .before .before .before .before in
+    (omega arith, omega (arith, length-more (start .args .n) (omega arith)))
+
+same-length : tie.Need-same-length
+same-length c = omega arith
+
+returns : tie.Need-returns
+returns c =
+    let last = c .before .before in
+    put-more _ (omega arith) (last .before .before .before .before .put-two .ensures) (last .put-digit .ensures)
+
+pub put-three-spec : {M : Type 1} → statement M
+put-three-spec = tie.close (tie.spec put-two-requires put-digit-requires same-length returns)

@@ -1,0 +1,65 @@
+-- `rows::put_bytes` meets its contract: the bytes are copied in turn. Assumes nothing.
+use Prim.Native.Nat.{_-_}
+use mathlib.Core.Path.{refl}
+use lib.ListN.{length}
+use native.Mathlib.Omega.{arith}
+use Rattle.three.proofs.Lists.{Stored, stored-first, stored-next}
+use Rattle.rows.proofs.Putting.{stored-put}
+use Rattle.rows.proofs.put_bytes.Statement.{statement}
+use Rattle.rows.proofs.put_bytes.Tie as tie
+
+abbrev Inv-loop : tie.InvT-loop
+Inv-loop out₀ at text i₀ i-end out i = Stored out₀ at text (length text) out i
+
+abbrev μ-loop : tie.MeasureT-loop
+μ-loop out₀ at text i₀ i-end out i = length text - i
+
+loop-holds : tie.Need-loop-holds Inv-loop μ-loop
+loop-holds c = stored-first _ _ _ _
+
+shared-slice-read-out : tie.Need-shared-slice-read-out Inv-loop μ-loop
+shared-slice-read-out c = omega arith
+
+add-out : tie.Need-add-out Inv-loop μ-loop
+add-out c = omega arith
+
+slice-write-out : tie.Need-slice-write-out Inv-loop μ-loop
+slice-write-out c = omega arith
+
+add-i : tie.Need-add-i Inv-loop μ-loop
+add-i c = omega arith
+
+loop-less : tie.Need-loop-less Inv-loop μ-loop
+loop-less c = omega arith
+
+loop-again : tie.Need-loop-again Inv-loop μ-loop
+loop-again c =
+    let turn = c .before in
+    let start = turn .before .before in
+    stored-next (start .args .out .now) (start .args .at) (start .args .text .now) _ (start .pre) (omega arith) _ _ _ 0 (turn .before .loop .inv) (turn .loop-test .taken) refl
+
+add-result : tie.Need-add-result Inv-loop μ-loop
+add-result c = omega arith
+
+same-length : tie.Need-same-length Inv-loop μ-loop
+same-length c = c .before .loop .inv .long
+
+returns : tie.Need-returns Inv-loop μ-loop
+returns c = stored-put _ _ _ _ _ (c .before .before .pre) (c .before .loop .inv) (c .loop-test .left)
+
+pub put-bytes-spec : {M : Type 1} → statement M
+put-bytes-spec =
+    tie.close
+    (tie.spec
+    Inv-loop
+    μ-loop
+    loop-holds
+    shared-slice-read-out
+    add-out
+    slice-write-out
+    add-i
+    loop-less
+    loop-again
+    add-result
+    same-length
+    returns)

@@ -1,0 +1,27 @@
+-- `rows::put_item` meets its contract: the name, and then the number. Assumes nothing.
+use native.Mathlib.Omega.{arith}
+use Rattle.rows.proofs.Putting.{twenty-digits, item-put}
+use borrow.Author.Needs.{needs}
+use Rattle.rows.proofs.put_item.Statement.{statement}
+use Rattle.rows.proofs.put_item.Tie as tie
+use Rattle.rows.proofs.put_bytes.Reads as put-bytes-reads
+use Rattle.rows.proofs.put_long.Reads as put-long-reads
+
+put-bytes-requires : tie.Need-put-bytes-requires
+put-bytes-requires c κs = search needs
+
+put-long-requires : tie.Need-put-long-requires
+put-long-requires c κs = omega (arith, twenty-digits (c .before .before .before .before .before .before .before .args .n) (omega arith))
+
+same-length : tie.Need-same-length
+same-length c = search needs
+
+returns : tie.Need-returns
+returns c =
+    let number = c .before .before in
+    let name = number .before .before .before .before in
+    let start = name .before .before .before .before in
+    item-put _ (name .put-bytes .ensures) (number .put-long .ensures) (omega arith)
+
+pub put-item-spec : {M : Type 1} → statement M
+put-item-spec = tie.close (tie.spec put-bytes-requires put-long-requires same-length returns)

@@ -1,0 +1,52 @@
+-- The numbers of a line and the lines of a text as the writer's code has them; nothing here has to be believed. Assumes nothing.
+use mathlib.Core.Path.{_≡_}
+use mathlib.Core.List.{List, [], _∷_}
+use Prim.Native.Nat.{ℕ, zero, suc, _+_, _*_, _≤_, _<_}
+use lib.ListN.{length, drop}
+use Rattle.circuit.specs.declared.Counts.{Counts}
+use Rattle.circuit.specs.Table.{tableLength, several, width}
+use Rattle.circuit.specs.RulesInCode.{Bounded}
+use Rattle.writer.specs.declared.LineNumbers.{LineNumbers}
+use Rattle.text.specs.KindsInCode.{coded}
+use Rattle.text.specs.Text.{numbers, writeBody, writeText}
+
+-- the first number, and so many more
+unfoldable pub andMore : ℕ → ℕ → ℕ → ℕ → List ℕ
+andMore zero a b c = a ∷ []
+andMore (suc zero) a b c = a ∷ b ∷ []
+andMore (suc (suc n)) a b c = a ∷ b ∷ c ∷ []
+
+-- the numbers of a line, as the code hands them on
+abbrev pub lineNumbers : LineNumbers → List ℕ
+lineNumbers l = andMore (l .more) (l .first) (l .second) (l .third)
+
+-- I L O A, which follow M
+unfoldable pub countNumbers : Counts → List ℕ
+countNumbers c = c .inputs ∷ c .latches ∷ c .lamps ∷ c .gates ∷ []
+
+-- a line's numbers, each of at most five digits
+pub record Small (line : LineNumbers) : Type 0 where
+  pub first : line .first < 100000
+  pub second : line .second < 100000
+  pub third : line .third < 100000
+
+-- the line of a kind whose words stand at word `at`
+pub record Shows (kind own : ℕ) (words : List ℕ) (at : ℕ) (line : LineNumbers) : Type 0 where
+  pub same : lineNumbers line ≡ numbers (coded kind own) (drop at words)
+  pub wide : line .words ≡ width (coded kind own)
+  pub small : Small line
+
+-- `count` lines of a kind, the first with the literal own and its words at word `at`
+unfoldable pub block : ℕ → ℕ → ℕ → List ℕ → ℕ → List ℕ
+block kind own count words at = writeBody (several (coded kind) own count []) (drop at words)
+
+-- those lines have their words, and their literals have at most five digits
+pub record Lines (kind own count : ℕ) (words : List ℕ) (at : ℕ) : Type 0 where
+  pub literals : own + 2 * count ≤ 10000
+  pub there : at + count * width (coded kind 0) ≤ length words
+
+-- a circuit whose text is to be written into so many bytes
+pub record Ready (c : Counts) (words : List ℕ) (room : ℕ) : Type 0 where
+  pub bounded : Bounded c
+  pub long : tableLength c ≤ length words
+  pub fits : length (writeText c words) ≤ room
