@@ -1,0 +1,46 @@
+-- K's lamp is "open though truly dark" (document 01, Bench circuits): the table has its verdict, and here it is dark at every tick,
+-- whatever the switch does. Assumes nothing.
+use mathlib.Core.Path.{_≡_, refl, ap, ap₂, _∙_}
+use mathlib.Core.Bool.{Bool, false}
+use mathlib.Core.List.{List, [], _∷_}
+use Prim.Native.Nat.{ℕ, zero, suc, _≤_}
+use native.Mathlib.Omega.{arith}
+use lib.ListN.{length}
+use Rattle.three.specs.Lists.{tabulate}
+use Rattle.three.specs.Value.{boolean}
+use Rattle.circuit.specs.declared.Counts.{Counts}
+use Rattle.circuit.specs.Circuit.{Circuit, signed, value, pass, settle, next, lamps}
+use Rattle.circuit.specs.Table.{circuitOf, gatesFrom}
+use Rattle.text.specs.Outcome.{accepted}
+use Rattle.text.specs.Text.{Content, readText}
+use Rattle.text.specs.Calls.{Reading}
+use Rattle.text.specs.Bench.{bytes, outcomeOf}
+use Rattle.text.proofs.Answers.{read-fits, reading-accepted}
+use Rattle.text.proofs.Determined.{reading-determined}
+use Rattle.cubes.specs.Execution.{settings, stateAfter, lampsAfter, resets}
+use Rattle.witness.proofs.Cases.{circuit-read}
+use Rattle.witness.proofs.Switching.{off-with-inverse}
+use Rattle.bench.specs.Bench.{K·}
+
+-- one switch, one gate of the switch and its inverse, and the gate as lamp
+abbrev K-content : Content
+K-content = record { counts = record { inputs = 1; latches = 0; lamps = 1; gates = 1 }; words = 4 ∷ 2 ∷ 3 ∷ [] }
+
+K-read : readText (bytes K·) ≡ accepted K-content
+unfolding outcomeOf bytes
+K-read = refl
+
+abbrev K-circuit : Circuit
+K-circuit = circuitOf (K-content .counts) (K-content .words)
+
+K-dark : (switches : ℕ → ℕ → Bool) (t : ℕ) → lampsAfter K-circuit switches (resets K-circuit) t ≡ false ∷ []
+unfolding lampsAfter stateAfter settings resets next lamps settle pass value signed boolean circuitOf gatesFrom tabulate
+K-dark switches zero = ap (λ (b : Bool). b ∷ []) (off-with-inverse (switches zero 0))
+K-dark switches (suc t) = ap (λ (b : Bool). b ∷ []) (off-with-inverse (switches (suc t) 0))
+
+pub truly-dark : (table : List ℕ) → 16 ≤ length table → {number : ℕ} {counts : Counts} {table′ : List ℕ} → Reading (bytes K·) table number counts table′
+    → (switches : ℕ → ℕ → Bool) (t : ℕ) → lampsAfter (circuitOf counts table′) switches (resets (circuitOf counts table′)) t ≡ false ∷ []
+truly-dark table room {number} {counts} {table′} reading switches t =
+    let is = reading-determined reading (reading-accepted (bytes K·) table (read-fits (bytes K·) table K-read (omega arith))) in
+    let same : circuitOf counts table′ ≡ K-circuit = ap₂ circuitOf (is .1) (is .2) ∙ circuit-read (bytes K·) K-read table (omega arith) in
+    rw same (K-dark switches t)

@@ -1,0 +1,6 @@
+pub mod Answers
+pub mod Cases
+pub mod WrongVersions
+pub mod Order
+pub mod TickBoolean
+pub mod Switching

@@ -1,0 +1,71 @@
+-- The order of the refusals by example, computed: whatever number the contracts of tick, run and writer allow for a row is the row's. Assumes nothing.
+use mathlib.Core.Path.{_≡_, refl, sym, _∙_}
+use mathlib.Core.Bool.{true}
+use mathlib.Core.List.{List, [], _∷_}
+use Prim.Native.Nat.{ℕ, zero, suc}
+use borrow.Author.Tests.{eqb-true}
+use lib.Dec.{eqb}
+use Rattle.three.specs.Record.{pairs, bad, knownPairs, judged, leftover, sound}
+use Rattle.three.specs.Lists.{every}
+use Rattle.three.proofs.Lists.{and-parts}
+use Rattle.circuit.specs.Refusal.{accepted}
+use Rattle.tick.specs.Tick.{recordTests, resultTests, tickTests, Given as TickGiven}
+use Rattle.text.specs.Decimal.{digits, decimal}
+use Rattle.text.specs.Line.{lineText}
+use Rattle.text.specs.Text.{headNumbers, shown, numbers, writeBody, writeText}
+use Rattle.text.specs.Calls.{writeTests}
+use Rattle.cubes.specs.Call.{outcomeNumber, Given as RunGiven, refusedBy, outcomeIn}
+use Rattle.witness.specs.Computed.{computed}
+use Rattle.witness.specs.Order.{Row, Numbered, numbered, TickAllows, tickNumber, RunAllows, elseOutcome, runNumber, WriteGiven, WriteAllows, writeNumber, ticks, runs, writes}
+
+all-numbered : {G : Type 0} {Allows : G → ℕ → Type 0} (f : G → ℕ) → ((call : G) (number : ℕ) → Allows call number → number ≡ f call)
+    → (rows : List (Row G)) → numbered f rows ≡ true → Numbered Allows rows
+unfolding numbered
+all-numbered f is [] e = tt
+all-numbered f is (x ∷ xs) e =
+    let p = and-parts (eqb (f (x .call)) (x .number)) _ e in
+    (λ number allows. is (x .call) number allows ∙ eqb-true _ _ (p .0), all-numbered f is xs (p .1))
+
+-- ---- tick
+
+ticks-number : (g : TickGiven) (number : ℕ) → TickAllows g number → number ≡ tickNumber g
+unfolding tickNumber
+ticks-number g number allows = allows .ticked .answers
+
+ticks-computed : numbered tickNumber ticks ≡ true
+unfolding computed numbered tickNumber ticks tickTests recordTests resultTests sound every judged bad knownPairs pairs leftover
+ticks-computed = refl
+
+pub tick-order : Numbered TickAllows ticks
+tick-order = all-numbered tickNumber ticks-number ticks ticks-computed
+
+-- ---- run
+
+else-outcome : (g : RunGiven) (k : ℕ) → accepted k (outcomeNumber (outcomeIn g)) k ≡ elseOutcome g k
+unfolding accepted elseOutcome
+else-outcome g zero = refl
+else-outcome g (suc k) = refl
+
+runs-number : (g : RunGiven) (number : ℕ) → RunAllows g number → number ≡ runNumber g
+unfolding runNumber
+runs-number g number allows = sym (allows .same) ∙ allows .runs .answers ∙ else-outcome g (refusedBy g)
+
+runs-computed : numbered runNumber runs ≡ true
+unfolding computed numbered runNumber elseOutcome runs
+runs-computed = refl
+
+pub run-order : Numbered RunAllows runs
+run-order = all-numbered runNumber runs-number runs runs-computed
+
+-- ---- writer
+
+writes-number : (g : WriteGiven) (number : ℕ) → WriteAllows g number → number ≡ writeNumber g
+unfolding writeNumber
+writes-number g number allows = allows .writing .answers
+
+writes-computed : numbered writeNumber writes ≡ true
+unfolding computed numbered writeNumber writes writeTests writeText headNumbers lineText decimal digits writeBody numbers shown
+writes-computed = refl
+
+pub write-order : Numbered WriteAllows writes
+write-order = all-numbered writeNumber writes-number writes writes-computed

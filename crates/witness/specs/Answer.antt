@@ -1,0 +1,55 @@
+-- What the contract of the run gives as one record of values: the answer, and the bytes written at the front of each buffer. Assumes nothing.
+use mathlib.Core.Path.{_≡_}
+use mathlib.Core.List.{List, []}
+use Prim.Native.Nat.{ℕ}
+use lib.ListN.{length, replicate}
+use Rattle.three.specs.Cube.{Cube, knownFields}
+use Rattle.three.specs.Record.{pack}
+use Rattle.circuit.specs.declared.Counts.{Counts}
+use Rattle.circuit.specs.Circuit.{Circuit}
+use Rattle.circuit.specs.Refusal.{accepted}
+use Rattle.cubes.specs.Run.{cubeAt, Outcome, verdict as verdictOf, settled as settledOf}
+use Rattle.cubes.specs.Call.{packedCubes, roomIn, storedCubes, backTo, outcomeNumber, Given, refusedBy, circuitIn, outcomeIn}
+
+-- a buffer that the call does not write has none
+pub record Answer : Type 0 where
+  pub number : ℕ
+  pub n : ℕ
+  pub j : ℕ
+  pub s : ℕ
+  pub cubes : List ℕ
+  pub verdict : List ℕ
+  pub settled : List ℕ
+
+-- from the number of the refusal before 15, and the run's outcome
+unfoldable pub answerFrom : ℕ → Circuit → ℕ → ℕ → Outcome → Answer
+answerFrom refused c w room outcome =
+    let number : ℕ = accepted refused (outcomeNumber outcome) refused in
+    let n : ℕ = storedCubes room outcome in
+    let j : ℕ = backTo outcome in
+    let fields : Cube = settledOf (cubeAt c w) n j in
+    record {
+      number = number;
+      n = accepted refused n 0;
+      j = accepted refused j 0;
+      s = accepted number (knownFields fields) 0;
+      cubes = accepted refused (packedCubes c w n) [];
+      verdict = accepted number (pack (verdictOf c (cubeAt c w) n)) [];
+      settled = accepted number (pack fields) [];
+    }
+
+-- of what a run is given
+unfoldable pub answerIn : Given → Answer
+answerIn g = answerFrom (refusedBy g) (circuitIn g) (g .w) (roomIn (g .counts) (g .cubes)) (outcomeIn g)
+
+-- ---- lent buffers
+
+-- a cube buffer of so many bytes, and two each for verdict and settled record
+pub record Sized (size : ℕ) (g : Given) : Type 0 where
+  pub cubes : length (g .cubes) ≡ size
+  pub verdict : length (g .verdict) ≡ 2
+  pub settled : length (g .settled) ≡ 2
+
+-- a run at w over such buffers, of zeros
+abbrev pub zeroed : Counts → List ℕ → ℕ → ℕ → Given
+zeroed c table w size = record { counts = c; table = table; w = w; cubes = replicate size 0; verdict = replicate 2 0; settled = replicate 2 0 }

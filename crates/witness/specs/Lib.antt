@@ -1,0 +1,6 @@
+pub mod Answer
+pub mod Case
+pub mod Computed
+pub mod Witness
+pub mod Order
+pub mod Switched

@@ -1,0 +1,165 @@
+-- The order of the refusals by example (document 01, Numbers a caller may get back), for tick, run and writer: each row has one
+-- fault and others that come later in the order, the next among them, and gives the first one's number. The reader's stand with
+-- its texts. Assumes nothing.
+use mathlib.Core.Path.{_≡_}
+use mathlib.Core.Bool.{Bool, true, _&&_}
+use mathlib.Core.List.{List, [], _∷_}
+use Prim.Native.Nat.{ℕ, zero, suc}
+use lib.Dec.{eqb}
+use lib.ListN.{length, replicate}
+use Rattle.circuit.specs.declared.Counts.{Counts}
+use Rattle.circuit.specs.Refusal.{refusal}
+use Rattle.tick.specs.Tick.{tickTests, Given as TickGiven, Ticked}
+use Rattle.text.specs.Calls.{writeTests, Writing}
+use Rattle.cubes.specs.declared.RunAnswer.{RunAnswer}
+use Rattle.cubes.specs.Call.{outcomeNumber, Given as RunGiven, refusedBy, outcomeIn, Runs}
+
+-- ---- rows
+
+-- a call and its number
+pub record Row (G : Type 0) : Type 0 where
+  pub call : G
+  pub number : ℕ
+
+infix 68 _gives_
+abbrev pub _gives_ : {G : Type 0} → G → ℕ → Row G
+call gives number = record { call = call; number = number }
+
+-- whatever number the contract allows for the call of a row is the row's
+abbrev pub Numbered : {G : Type 0} → (G → ℕ → Type 0) → List (Row G) → Type 0
+Numbered Allows [] = Unit {0}
+Numbered Allows (x ∷ xs) = ((number : ℕ) → Allows (x .call) number → number ≡ x .number) × Numbered Allows xs
+
+-- the same by a function that computes the number
+unfoldable pub numbered : {G : Type 0} → (G → ℕ) → List (Row G) → Bool
+numbered f [] = true
+numbered f (x ∷ xs) = eqb (f (x .call)) (x .number) && numbered f xs
+
+-- ---- tick
+
+-- some buffers at exit go with the number
+pub record TickAllows (g : TickGiven) (number : ℕ) : Type 0 where
+  pub next : List ℕ
+  pub lamps : List ℕ
+  pub ticked : Ticked g number next lamps
+
+unfoldable pub tickNumber : TickGiven → ℕ
+tickNumber g = refusal (tickTests (g .counts) (g .table) (g .state) (g .switches) (length (g .next)) (length (g .lamps)))
+
+-- ---- run
+
+pub record RunAllows (g : RunGiven) (number : ℕ) : Type 0 where
+  pub answer : RunAnswer
+  pub cubes : List ℕ
+  pub verdict : List ℕ
+  pub settled : List ℕ
+  pub runs : Runs g answer cubes verdict settled
+  pub same : answer .number ≡ number
+
+-- the refusal before 15, and only without one the outcome's number
+unfoldable pub elseOutcome : RunGiven → ℕ → ℕ
+elseOutcome g zero = outcomeNumber (outcomeIn g)
+elseOutcome g (suc k) = suc k
+
+unfoldable pub runNumber : RunGiven → ℕ
+runNumber g = elseOutcome g (refusedBy g)
+
+-- ---- writer
+
+-- What the writer is given: counts, table, and the buffer as it is lent
+pub record WriteGiven : Type 0 where
+  pub counts : Counts
+  pub table : List ℕ
+  pub buffer : List ℕ
+
+pub record WriteAllows (g : WriteGiven) (number : ℕ) : Type 0 where
+  pub bytes : ℕ
+  pub buffer′ : List ℕ
+  pub writing : Writing (g .counts) (g .table) (g .buffer) number bytes buffer′
+
+unfoldable pub writeNumber : WriteGiven → ℕ
+writeNumber g = refusal (writeTests (g .counts) (g .table) (g .buffer))
+
+-- ---- the calls: E of the bench circuits, with one switch more
+
+abbrev fair : Counts
+fair = record { inputs = 1; latches = 1; lamps = 1; gates = 0 }
+
+-- 257 inputs
+abbrev many : Counts
+many = record { inputs = 257; latches = 1; lamps = 1; gates = 0 }
+
+-- next literal 1 and reset 0, lamp literal 4
+abbrev good : List ℕ
+good = 1 ∷ 0 ∷ 4 ∷ []
+
+-- reset 2
+abbrev broken : List ℕ
+broken = 1 ∷ 2 ∷ 4 ∷ []
+
+-- the same, and a word short
+abbrev short : List ℕ
+short = 1 ∷ 2 ∷ []
+
+-- a record with 0 in its field, one with the pair 11, and one with a leftover bit set
+abbrev off : List ℕ
+off = 0x40 ∷ []
+
+abbrev bad : List ℕ
+bad = 0xC0 ∷ []
+
+abbrev spilt : List ℕ
+spilt = 0x41 ∷ []
+
+abbrev one : List ℕ
+one = 0xFF ∷ []
+
+abbrev tick : Counts → List ℕ → List ℕ → List ℕ → List ℕ → List ℕ → TickGiven
+tick c table state switches next lamps = record { counts = c; table = table; state = state; switches = switches; next = next; lamps = lamps }
+
+abbrev run : Counts → List ℕ → ℕ → List ℕ → List ℕ → List ℕ → RunGiven
+run c table w cubes verdict settled = record { counts = c; table = table; w = w; cubes = cubes; verdict = verdict; settled = settled }
+
+abbrev write : Counts → List ℕ → List ℕ → WriteGiven
+write c table buffer = record { counts = c; table = table; buffer = buffer }
+
+-- "Tick: 3, 10 for the table, 11, 10 for given records, 14, 10 for results"
+unfoldable pub ticks : List (Row TickGiven)
+ticks =
+    tick many short [] [] [] [] gives 3
+    ∷ tick fair short [] [] [] [] gives 10
+    ∷ tick fair broken [] bad [] [] gives 11
+    ∷ tick fair good [] bad [] [] gives 10
+    ∷ tick fair good bad [] [] [] gives 10
+    ∷ tick fair good bad off [] [] gives 14
+    ∷ tick fair good off spilt [] [] gives 14
+    ∷ tick fair good off off [] one gives 10
+    ∷ tick fair good off off one [] gives 10
+    ∷ tick fair good off off one one gives 0
+    ∷ []
+
+-- "Run: 3, 10 for the table, 11, 12, 13, 10 for results, 15"
+unfoldable pub runs : List (Row RunGiven)
+runs =
+    run many short 1001 [] [] [] gives 3
+    ∷ run fair short 1001 [] [] [] gives 10
+    ∷ run fair broken 1001 [] [] [] gives 11
+    ∷ run fair good 1001 [] [] [] gives 12
+    ∷ run fair good 1001 (replicate 65537 0) one one gives 12
+    ∷ run fair good 1000 [] [] [] gives 13
+    ∷ run fair good 1000 (replicate 65537 0) [] one gives 13
+    ∷ run fair good 0 one [] one gives 10
+    ∷ run fair good 0 one one [] gives 10
+    ∷ run fair good 0 one one one gives 15
+    ∷ run fair good 0 (replicate 2 0) one one gives 0
+    ∷ []
+
+-- "Writer: 3, 10 for the table, 11, 10 for the text"; the text of `good` has 22 bytes
+unfoldable pub writes : List (Row WriteGiven)
+writes =
+    write many short [] gives 3
+    ∷ write fair short [] gives 10
+    ∷ write fair broken [] gives 11
+    ∷ write fair good (replicate 21 0) gives 10
+    ∷ write fair good (replicate 22 0) gives 0
+    ∷ []

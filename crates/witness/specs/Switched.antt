@@ -1,0 +1,30 @@
+-- A circuit whose lamp lights only where its switch changes: a latch keeps what the switch was, and the lamp is on where the latch is
+-- on and the switch is off. As a text: aag 3 1 1 1 1/2/4 2/6/6 4 3/. Assumes nothing.
+use mathlib.Core.Bool.{Bool}
+use mathlib.Core.List.{List, [], _∷_}
+use Prim.Native.Nat.{ℕ}
+use lib.Dec.{eqb}
+use Rattle.circuit.specs.declared.Counts.{Counts}
+use Rattle.circuit.specs.Circuit.{Circuit}
+use Rattle.circuit.specs.Table.{circuitOf}
+use Rattle.cubes.specs.Call.{Given}
+
+abbrev pub counts : Counts
+counts = record { inputs = 1; latches = 1; lamps = 1; gates = 1 }
+
+abbrev pub words : List ℕ
+words = 2 ∷ 0 ∷ 6 ∷ 4 ∷ 3 ∷ []
+
+abbrev pub circuit : Circuit
+circuit = circuitOf counts words
+
+-- its run at w, over these buffers
+abbrev pub given : ℕ → List ℕ → List ℕ → List ℕ → Given
+given w cubes verdict settled = record { counts = counts; table = words; w = w; cubes = cubes; verdict = verdict; settled = settled }
+
+-- switch settings at each tick: always the same, and on at tick t alone
+abbrev pub always : Bool → ℕ → ℕ → Bool
+always v tick switch = v
+
+abbrev pub once : ℕ → ℕ → ℕ → Bool
+once t tick switch = eqb tick t
