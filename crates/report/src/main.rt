@@ -27,7 +27,7 @@ const REPORT_BYTES: usize = 20000;
 // One byte more than the longest text that is read.
 const DECIDING_BYTES: usize = 60001;
 
-// Of what follows: 16 MiB is far beyond any circuit that is sent by mistake, and takes an instant.
+// Of what follows. Any file that is sent by mistake has less, most likely; and so much takes an instant.
 const MOST_SKIPPED: usize = 16777216;
 
 // What `io::buffer` holds.
@@ -213,7 +213,7 @@ fn skip_some() -> usize
     io::count(got, &piece)
 }
 
-// What is left, so that whoever sends it can go on to its end; no more than MOST_SKIPPED bytes, since it may have none.
+// What is left, so that whoever sends it can go on to its end; at most MOST_SKIPPED bytes of it, since it may have no end.
 fn skip_rest() {
     let mut left = MOST_SKIPPED;
     while left >= PIECE {
