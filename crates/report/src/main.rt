@@ -1,6 +1,7 @@
 // The report program (document 01): a circuit's text on standard input, the report on standard output.
 use circuit::Counts;
 use cubes::RunAnswer;
+use libc::STDERR_FILENO;
 use libc::STDIN_FILENO;
 use libc::STDOUT_FILENO;
 use rows::Row;
@@ -23,6 +24,15 @@ const TABLE_WORDS: usize = 7742;
 
 // The report on any circuit fits: 100 bytes for the first line, 34 for each lamp and latch.
 const REPORT_BYTES: usize = 20000;
+
+// One byte more than the longest text that is read.
+const DECIDING_BYTES: usize = 60001;
+
+// Of what follows. Any file that is sent by mistake has less, most likely; and so much takes an instant.
+const MOST_SKIPPED: usize = 16777216;
+
+// What `io::buffer` holds.
+const PIECE: usize = 4096;
 
 // "one line on closure with n, j, s"
 fn put_closing(out: &mut [u8], n: usize, j: usize, s: usize) -> usize
@@ -87,28 +97,91 @@ fn report(text: &[u8], out: &mut [u8; REPORT_BYTES]) -> usize
     put_closed(out, counts, answer, &verdict, &settled)
 }
 
-// A piece of what is left on standard input; whether there was any.
-fn skip_some() -> bool {
-    let mut piece = io::buffer();
-    libc::read(STDIN_FILENO, &mut piece) > 0
+// What was taken of standard input; a read that failed is no end of the text.
+struct Taken {
+    bytes: usize,
+    failed: bool,
 }
 
-// Everything that is left, so that whoever sends it can go on to its end. A proved loop has to end: this one counts down from a number that no input uses up.
-fn skip_rest() {
-    let mut turns = u64::MAX;
-    while turns > 0 && skip_some() {
-        turns -= 1;
+// One read behind the bytes that are there.
+fn take_some(text: &mut [u8], at: usize) -> Taken
+    requires { ⌜ at ≤ length (now text) ⌝ }
+    ensures { λ r. ⌜ at + r .bytes ≤ length (now (text .entry)) ⌝ }
+{
+    let room = &mut text[at..];
+    let got = libc::read(STDIN_FILENO, room);
+    Taken {
+        bytes: io::count(got, room),
+        failed: got < 0,
     }
 }
 
-// The first 65,536 bytes decide: a text that is longer is over 60,000 bytes.
+// The text to its end, or as much of it as the buffer holds.
+fn take_text(text: &mut [u8]) -> Taken
+    ensures { λ r. ⌜ r .bytes ≤ length (now (text .entry)) ⌝ }
+{
+    let mut bytes = 0;
+    while bytes < text.len() {
+        let more = take_some(text, bytes);
+        if more.bytes == 0 {
+            return Taken {
+                bytes,
+                failed: more.failed,
+            };
+        }
+        bytes += more.bytes;
+    }
+    Taken {
+        bytes,
+        failed: false,
+    }
+}
+
+// How many bytes a read gives of what is left; none at its end, or where it fails.
+fn skip_some() -> usize
+    ensures { λ r. ⌜ r ≤ 4096 ⌝ }
+{
+    let mut piece = io::buffer();
+    let got = libc::read(STDIN_FILENO, &mut piece);
+    io::count(got, &piece)
+}
+
+// What is left, so that whoever sends it can go on to its end; at most MOST_SKIPPED bytes of it, since it may have no end.
+fn skip_rest() {
+    let mut left = MOST_SKIPPED;
+    while left >= PIECE {
+        let got = skip_some();
+        if got == 0 {
+            return;
+        }
+        left -= got;
+    }
+}
+
+fn complain(why: &[u8]) {
+    io::write_all(STDERR_FILENO, why);
+}
+
+// The report on a text, on standard output.
+fn print_report(text: &[u8]) {
+    let mut out = [0u8; REPORT_BYTES];
+    let bytes = report(text, &mut out);
+    if !io::write_all(STDOUT_FILENO, &out[..bytes]) {
+        complain(b"report: the report was not written\n");
+    }
+}
+
+// A text that fills the buffer is refused whatever follows: that is printed before anything more is waited for.
 fn main() {
-    let mut input = io::large_buffer();
-    let size = io::read_full(STDIN_FILENO, &mut input);
-    if size == 65536 {
+    let mut text = [0u8; DECIDING_BYTES];
+    let taken = take_text(&mut text);
+    if taken.failed {
+        complain(b"report: standard input was not read to its end\n");
+        return;
+    }
+    let bytes = taken.bytes;
+    print_report(&text[..bytes]);
+    if bytes == DECIDING_BYTES {
         skip_rest();
     }
-    let mut out = [0u8; REPORT_BYTES];
-    let bytes = report(&input[..size], &mut out);
-    io::write_all(STDOUT_FILENO, &out[..bytes]);
 }

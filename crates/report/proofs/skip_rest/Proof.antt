@@ -1,14 +1,14 @@
--- `report::skip_rest` ends: the turns that are left fall. Assumes nothing.
+-- `report::skip_rest` ends: each piece leaves less to take. Assumes nothing.
 use native.Mathlib.Omega.{arith}
 use Rattle.report.proofs.skip_rest.Statement.{statement}
 use Rattle.report.proofs.skip_rest.Tie as tie
 use Rattle.report.proofs.skip_some.Reads as skip-some-reads
 
 abbrev Inv-loop : tie.InvT-loop
-Inv-loop turns₀ turns = Unit {0}
+Inv-loop left₀ left = Unit {0}
 
 abbrev μ-loop : tie.MeasureT-loop
-μ-loop turns₀ turns = turns
+μ-loop left₀ left = left
 
 loop-holds : tie.Need-loop-holds Inv-loop μ-loop
 loop-holds c = tt
@@ -16,17 +16,17 @@ loop-holds c = tt
 skip-some-requires : tie.Need-skip-some-requires Inv-loop μ-loop
 skip-some-requires c κs = tt
 
-sub-turns : tie.Need-sub-turns Inv-loop μ-loop
-sub-turns c = omega arith
+returns : tie.Need-returns Inv-loop μ-loop
+returns c = tt
+
+sub-left : tie.Need-sub-left Inv-loop μ-loop
+sub-left c = omega arith
 
 loop-less : tie.Need-loop-less Inv-loop μ-loop
 loop-less c = omega arith
 
 loop-again : tie.Need-loop-again Inv-loop μ-loop
 loop-again c = tt
-
-returns : tie.Need-returns Inv-loop μ-loop
-returns c = tt
 
 returns-2 : tie.Need-returns-2 Inv-loop μ-loop
 returns-2 c = tt
@@ -39,8 +39,8 @@ skip-rest-spec =
     μ-loop
     loop-holds
     skip-some-requires
-    sub-turns
+    returns
+    sub-left
     loop-less
     loop-again
-    returns
     returns-2)

@@ -1,0 +1,12 @@
+-- A text over 60,000 bytes is refused whatever follows it, so the program may answer before it has read the rest. Assumes nothing.
+use mathlib.Core.Path.{_≡_, sym, ap, _∙_}
+use mathlib.Core.List.{List, _++_}
+use Prim.Native.Nat.{ℕ, _<_}
+use native.Mathlib.Omega.{arith}
+use lib.ListN.{length, length-append}
+use Rattle.text.proofs.Steps.{text-long}
+use Rattle.report.specs.Report.{reported, reportOf}
+
+pub overlong : (text rest : List ℕ) → 60000 < length text → reportOf (text ++ rest) ≡ reportOf text
+unfolding reportOf
+overlong text rest long = ap reported (text-long (text ++ rest) (rw length-append (omega arith)) ∙ sym (text-long text long))

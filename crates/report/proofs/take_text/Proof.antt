@@ -1,0 +1,57 @@
+-- `report::take_text` stays inside its buffer and ends: each read that gives something leaves less room. Assumes nothing.
+use native.Mathlib.Omega.{arith}
+use Prim.Native.Nat.{_-_, _≤_}
+use lib.ListN.{length}
+use mathlib.Core.Path.{_≡_, refl}
+use Rattle.report.proofs.take_text.Statement.{statement}
+use Rattle.report.proofs.take_text.Tie as tie
+use Rattle.report.proofs.take_some.Reads as take-some-reads
+
+abbrev Inv-loop : tie.InvT-loop
+Inv-loop text₀ bytes₀ text bytes = (bytes ≤ length text) × (length text ≡ length text₀)
+
+abbrev μ-loop : tie.MeasureT-loop
+μ-loop text₀ bytes₀ text bytes = length text - bytes
+
+loop-holds : tie.Need-loop-holds Inv-loop μ-loop
+loop-holds c = (omega arith, refl)
+
+take-some-requires : tie.Need-take-some-requires Inv-loop μ-loop
+take-some-requires c κs = omega arith
+
+same-length : tie.Need-same-length Inv-loop μ-loop
+same-length c = omega arith
+
+returns : tie.Need-returns Inv-loop μ-loop
+returns c = omega arith
+
+add-bytes : tie.Need-add-bytes Inv-loop μ-loop
+add-bytes c = omega arith
+
+loop-less : tie.Need-loop-less Inv-loop μ-loop
+loop-less c = omega arith
+
+loop-again : tie.Need-loop-again Inv-loop μ-loop
+loop-again c = (omega arith, omega arith)
+
+same-length-2 : tie.Need-same-length-2 Inv-loop μ-loop
+same-length-2 c = omega arith
+
+returns-2 : tie.Need-returns-2 Inv-loop μ-loop
+returns-2 c = omega arith
+
+pub take-text-spec : {M : Type 1} → statement M
+take-text-spec =
+    tie.close
+    (tie.spec
+    Inv-loop
+    μ-loop
+    loop-holds
+    take-some-requires
+    same-length
+    returns
+    add-bytes
+    loop-less
+    loop-again
+    same-length-2
+    returns-2)
