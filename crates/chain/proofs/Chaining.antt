@@ -21,7 +21,7 @@ use Rattle.circuit.specs.Circuit.{Circuit, Latch, next}
 use Rattle.circuit.specs.Table.{circuitOf}
 use Rattle.chain.specs.declared.Progress.{Progress}
 use Rattle.cubes.specs.Run.{hold, differing, due, nextCube, start, Stage, reached, widened, store, stage, cubeAt, Found, at, nowhere, search, closed, full, back, run}
-use Rattle.stored.specs.CubesInCode.{startFields, keptByte, keptBytes, coversFrom, first, Ready}
+use Rattle.stored.specs.CubesInCode.{startFields, keptByte, keptBytes, coversFrom, first, SwitchesX}
 use Rattle.chain.specs.ChainInCode.{heldPair, heldByte, differingByte, widenedBytes, heldAfter, Advanced}
 use Rattle.cubes.proofs.Wider.{reached-sized}
 use Rattle.cubes.proofs.Closes.{held-sized}
@@ -101,7 +101,7 @@ module _ (c : Counts) (words : List ℕ) (w : ℕ) (buffer : List ℕ) where
     pub open-yet : run circuit w last ≡ full
     pub stored : cubes ≡ over (records (cubeAt circuit w) count) buffer
     pub holding : (i : ℕ) → i < len → getD held i 0 ≡ heldByte (stage circuit w last .held) i
-    pub ready : Ready c values
+    pub ready : SwitchesX c values
 
   flags-sized : (k : ℕ) → length (stage circuit w k .held) ≡ size
   flags-sized k = held-sized circuit w k ∙ latches-sized c words w
@@ -116,7 +116,7 @@ module _ (c : Counts) (words : List ℕ) (w : ℕ) (buffer : List ℕ) where
       free (l ∷ ls) zero = refl
       free (l ∷ ls) (suc i) = free ls i
 
-  pub going-first : (cubes values : List ℕ) → size ≤ 512 → len ≤ length buffer → cubes ≡ over (pack (startFields words (c .latches))) buffer → Ready c values
+  pub going-first : (cubes values : List ℕ) → size ≤ 512 → len ≤ length buffer → cubes ≡ over (pack (startFields words (c .latches))) buffer → SwitchesX c values
       → Going 1 (replicate 128 0) cubes values
   unfolding run stage cubeAt
   going-first cubes values few room e r = record {
@@ -232,7 +232,7 @@ module _ (c : Counts) (words : List ℕ) (w : ℕ) (buffer : List ℕ) where
             kept-record size (after .held) flags held-next b (reached circuit here) reach-sized (unfold Reached in reach)
             ∙ ap (λ (s : Stage). pack (s .cube)) (sym stage-next)
 
-        pub going-next : (values′ : List ℕ) → Ready c values′ → count * len + len ≤ length buffer → Going (after .count) (after .held) cubes′ values′
+        pub going-next : (values′ : List ℕ) → SwitchesX c values′ → count * len + len ≤ length buffer → Going (after .count) (after .held) cubes′ values′
         unfolding store
         going-next values′ r room = record {
           last = count;

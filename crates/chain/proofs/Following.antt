@@ -16,7 +16,7 @@ use Rattle.circuit.specs.RulesInCode.{Legal}
 use Rattle.chain.specs.declared.Progress.{Progress}
 use Rattle.chain.specs.declared.Chain.{Chain}
 use Rattle.cubes.specs.Run.{due, nextCube, cubeAt, closed, full, run}
-use Rattle.stored.specs.CubesInCode.{startFields, keptBytes, coversFrom, first, Ready}
+use Rattle.stored.specs.CubesInCode.{startFields, keptBytes, coversFrom, first, SwitchesX}
 use Rattle.cubes.specs.Call.{packedCubes, roomIn, storedCubes, backTo}
 use Rattle.chain.specs.ChainInCode.{Advanced, Chained, Followable}
 use Rattle.cubes.specs.OutcomesInCode.{isClosed}
@@ -113,7 +113,7 @@ module _ (c : Counts) (words : List ℕ) (w len room : ℕ) (buffer : List ℕ) 
         pub next-fits-now : count * len + len ≤ length cubes
         next-fits-now = omega (arith, next-fits, kept-length)
 
-        pub turn-next : (after : Progress) (cubes′ values′ : List ℕ) → Advanced (due w count) len (record { count = count; held = held }) cubes b′ after cubes′ → Ready c values′ → length b′ ≡ 128
+        pub turn-next : (after : Progress) (cubes′ values′ : List ℕ) → Advanced (due w count) len (record { count = count; held = held }) cubes b′ after cubes′ → SwitchesX c values′ → length b′ ≡ 128
             → Turn (after .count) (after .held) cubes′ values′ b′
         turn-next after cubes′ values′ a ready long′ = record {
           going = going-next c words w buffer g b′ r (due w count) refl (open-yet h) after cubes′ (rw (f .size) at a) values′ ready (rw (f .size) at next-fits);
@@ -121,7 +121,7 @@ module _ (c : Counts) (words : List ℕ) (w len room : ℕ) (buffer : List ℕ) 
           long = long′;
         }
 
-  pub turn-first : (values b : List ℕ) → Ready c values → length b ≡ 128 → Turn 1 (replicate 128 0) buffer values b
+  pub turn-first : (values b : List ℕ) → SwitchesX c values → length b ≡ 128 → Turn 1 (replicate 128 0) buffer values b
   unfolding roomIn
   turn-first values b r l = record {
     going = going-first c words w buffer buffer values (f .legal .bounded .latches) (f .one) (f .begun) r;

@@ -8,7 +8,7 @@ use borrow.Author.Tests.{le-leb, lt-leb}
 use lib.ListN.{length}
 use Rattle.three.proofs.Lists.{by-test}
 use Rattle.circuit.specs.declared.Counts.{Counts}
-use Rattle.circuit.specs.Refusal.{Test, refusal, accepted, allHold, Passed}
+use Rattle.circuit.specs.Refusal.{Test, refusal, leftBy, allHold, Passed}
 use Rattle.circuit.specs.Table.{top, tableLength, ceilingTests, kinds, tableTests, circuitTests}
 use Rattle.circuit.specs.RulesInCode.{Bounded}
 
@@ -104,11 +104,11 @@ module _ (c : Counts) (table : List ℕ) where
 
 -- ---- what a call leaves
 
-pub refused-old : {A : Type 0} (k : ℕ) (new old : A) → (k ≡ 0 → ⊥) → old ≡ accepted k new old
-unfolding accepted
+pub refused-old : {A : Type 0} (k : ℕ) (new old : A) → (k ≡ 0 → ⊥) → old ≡ leftBy k new old
+unfolding leftBy
 refused-old zero new old h = absurd (h refl)
 refused-old (suc k) new old h = refl
 
-pub accepted-new : {A : Type 0} (k : ℕ) (new old : A) → k ≡ 0 → new ≡ accepted k new old
-unfolding accepted
+pub accepted-new : {A : Type 0} (k : ℕ) (new old : A) → k ≡ 0 → new ≡ leftBy k new old
+unfolding leftBy
 accepted-new k new old z = rw z

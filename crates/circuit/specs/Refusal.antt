@@ -30,6 +30,6 @@ Passed [] = Unit {0}
 Passed (t ∷ ts) = (t .holds ≡ true) × Passed ts
 
 -- a call's number decides what it leaves: after 0 the new, after a refusal the old
-unfoldable pub accepted : {A : Type 0} → ℕ → A → A → A
-accepted zero new old = new
-accepted (suc n) new old = old
+unfoldable pub leftBy : {A : Type 0} → ℕ → A → A → A
+leftBy zero new old = new
+leftBy (suc n) new old = old

@@ -11,7 +11,7 @@ use Rattle.three.specs.Record.{bytesFor, unpack}
 use Rattle.circuit.specs.declared.Counts.{Counts}
 use Rattle.circuit.specs.Circuit.{Circuit, lamps}
 use Rattle.circuit.specs.Table.{circuitOf}
-use Rattle.cubes.specs.Run.{lampsIn, cubeAt, Outcome, closed, full, run, merge, verdict, settled}
+use Rattle.cubes.specs.Run.{lampsIn, cubeAt, Ending, closed, full, run, merge, verdict, settled}
 use Rattle.cubes.specs.Call.{cubeIn, packedCubes, storedCubes, backTo, outcomeNumber}
 use Rattle.cubes.specs.OutcomesInCode.{isClosed}
 use Rattle.cubes.proofs.Steps.{found, Ran, stays, closes, ran}
@@ -21,17 +21,17 @@ use Rattle.cubes.proofs.Wider.{cube-sized}
 
 -- ---- outcomes
 
-pub closed-is : (room : ℕ) (o : Outcome) → isClosed o ≡ true → o ≡ closed (storedCubes room o) (backTo o)
+pub closed-is : (room : ℕ) (o : Ending) → isClosed o ≡ true → o ≡ closed (storedCubes room o) (backTo o)
 unfolding isClosed storedCubes backTo
 closed-is room (closed n j) e = refl
 closed-is room full e = absurd (false≢true e)
 
-pub full-is : (o : Outcome) → isClosed o ≡ false → (15 ≡ outcomeNumber o) × (0 ≡ backTo o)
+pub full-is : (o : Ending) → isClosed o ≡ false → (15 ≡ outcomeNumber o) × (0 ≡ backTo o)
 unfolding isClosed outcomeNumber backTo
 full-is (closed n j) e = absurd (true≢false e)
 full-is full e = (refl, refl)
 
-pub closed-number : (o : Outcome) → isClosed o ≡ true → 0 ≡ outcomeNumber o
+pub closed-number : (o : Ending) → isClosed o ≡ true → 0 ≡ outcomeNumber o
 unfolding isClosed outcomeNumber
 closed-number (closed n j) e = refl
 closed-number full e = absurd (false≢true e)
@@ -46,7 +46,7 @@ module _ (c : Circuit) (w : ℕ) where
   unfolding isClosed storedCubes backTo
   closed-within room e = go (run c w room) (ran c w room) e
     where
-      go : (o : Outcome) → Ran c w room o → isClosed o ≡ true → (backTo o < storedCubes room o) × (storedCubes room o ≤ room)
+      go : (o : Ending) → Ran c w room o → isClosed o ≡ true → (backTo o < storedCubes room o) × (storedCubes room o ≤ room)
       go (closed n j) r h = ran-within r
       go full r h = absurd (false≢true h)
 

@@ -13,7 +13,7 @@ use Rattle.three.specs.Value.{Three, unknown, code}
 use Rattle.three.specs.Cube.{Cube, alike, allows, subsumes, blank}
 use Rattle.three.proofs.Lists.{length-adjust, each-map}
 use Rattle.circuit.specs.Circuit.{Circuit, next}
-use Rattle.cubes.specs.Run.{hold, differing, due, nextCube, start, Stage, reached, widened, store, stage, cubeAt, nowhere, Outcome, closed, full, run}
+use Rattle.cubes.specs.Run.{hold, differing, due, nextCube, start, Stage, reached, widened, store, stage, cubeAt, nowhere, Ending, closed, full, run}
 use Rattle.cubes.proofs.Steps.{last-fails, Looked, Ran, begun, stays, closes, goes-on, ran}
 use Rattle.cubes.proofs.Wider.{reached-sized, cube-sized}
 
@@ -138,7 +138,7 @@ module _ (c : Circuit) (w : ℕ) where
 -- ---- closing
 
 -- a run closes, with at most so many cubes
-pub record ClosesWithin (bound : ℕ) (outcome : Outcome) : Type 0 where
+pub record ClosesWithin (bound : ℕ) (outcome : Ending) : Type 0 where
   pub n : ℕ
   pub j : ℕ
   pub is-closed : outcome ≡ closed n j
@@ -147,6 +147,6 @@ pub record ClosesWithin (bound : ℕ) (outcome : Outcome) : Type 0 where
 pub run-closes : (c : Circuit) (w room : ℕ) → 1 ≤ w → w * length (c .latches) + 1 ≤ room → ClosesWithin (w * length (c .latches) + 1) (run c w room)
 run-closes c w room pos enough = go (run c w room) (ran c w room)
   where
-    go : (o : Outcome) → Ran c w room o → ClosesWithin (w * length (c .latches) + 1) o
+    go : (o : Ending) → Ran c w room o → ClosesWithin (w * length (c .latches) + 1) o
     go (closed n j) r = record { n = n; j = j; is-closed = refl; few = few-cubes c w pos r }
     go full r = absurd (omega (arith, still-open c w pos r))

@@ -3,9 +3,9 @@ use mathlib.Core.Path.{_≡_, sym, _∙_}
 use mathlib.Core.List.{List}
 use Prim.Native.Nat.{ℕ}
 use Rattle.cubes.specs.declared.RunAnswer.{RunAnswer}
-use Rattle.cubes.specs.Call.{Given, Runs}
+use Rattle.cubes.specs.Call.{RunGiven, Runs}
 
-pub determined : (g : Given) {r r′ : RunAnswer} {cubes cubes′ verdict verdict′ settled settled′ : List ℕ}
+pub determined : (g : RunGiven) {r r′ : RunAnswer} {cubes cubes′ verdict verdict′ settled settled′ : List ℕ}
     → Runs g r cubes verdict settled → Runs g r′ cubes′ verdict′ settled′
     → (r .number ≡ r′ .number) × (r .cubes ≡ r′ .cubes) × (r .back ≡ r′ .back) × (r .settled ≡ r′ .settled)
     × (cubes ≡ cubes′) × (verdict ≡ verdict′) × (settled ≡ settled′)

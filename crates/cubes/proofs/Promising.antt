@@ -12,12 +12,12 @@ use Rattle.three.specs.Record.{unpack}
 use Rattle.three.proofs.Lists.{length-tabulate}
 use Rattle.three.proofs.Pack.{unpack-over}
 use Rattle.circuit.specs.declared.Counts.{Counts}
-use Rattle.circuit.specs.Refusal.{accepted}
+use Rattle.circuit.specs.Refusal.{leftBy}
 use Rattle.circuit.specs.Table.{circuitOf}
 use Rattle.circuit.proofs.Refusals.{accepted-new}
 use Rattle.cubes.specs.declared.RunAnswer.{RunAnswer}
-use Rattle.cubes.specs.Run.{cubeAt, Outcome, closed, full, verdict, settled}
-use Rattle.cubes.specs.Call.{cubeIn, packedCubes, roomIn, storedCubes, outcomeNumber, Given, refusedBy, circuitIn, outcomeIn, cubesIn, backIn, verdictFields, settledFields, Runs}
+use Rattle.cubes.specs.Run.{cubeAt, Ending, closed, full, verdict, settled}
+use Rattle.cubes.specs.Call.{cubeIn, packedCubes, roomIn, storedCubes, outcomeNumber, RunGiven, refusedBy, circuitIn, outcomeIn, cubesIn, backIn, verdictFields, settledFields, Runs}
 use Rattle.cubes.specs.OutcomesInCode.{isClosed}
 use Rattle.cubes.specs.Promise.{Covered, Promises}
 use Rattle.cubes.proofs.Promise.{resets-start, covered-early, covered-late, lamp-judged, latch-settled}
@@ -27,18 +27,18 @@ use Rattle.cubes.proofs.Wider.{merge-sized}
 
 -- ---- number 0 says: not refused, and closed
 
-zero-says : (k : ℕ) (o : Outcome) → 0 ≡ accepted k (outcomeNumber o) k → (k ≡ 0) × (isClosed o ≡ true)
-unfolding accepted outcomeNumber isClosed
+zero-says : (k : ℕ) (o : Ending) → 0 ≡ leftBy k (outcomeNumber o) k → (k ≡ 0) × (isClosed o ≡ true)
+unfolding leftBy outcomeNumber isClosed
 zero-says zero (closed n j) e = (refl, refl)
 zero-says zero full e = absurd (omega arith)
 zero-says (suc k) o e = absurd (omega arith)
 
-closed-says : (room : ℕ) (o : Outcome) {n j : ℕ} → o ≡ closed n j → (outcomeNumber o ≡ 0) × (storedCubes room o ≡ n)
+closed-says : (room : ℕ) (o : Ending) {n j : ℕ} → o ≡ closed n j → (outcomeNumber o ≡ 0) × (storedCubes room o ≡ n)
 unfolding outcomeNumber storedCubes
 closed-says room o e = (rw e, rw e)
 
 -- and any other number, where nothing is refused before: no room
-number-says : (o : Outcome) {k : ℕ} → k ≡ outcomeNumber o → (k ≡ 0 → ⊥) → (k ≡ 15) × (o ≡ full)
+number-says : (o : Ending) {k : ℕ} → k ≡ outcomeNumber o → (k ≡ 0 → ⊥) → (k ≡ 15) × (o ≡ full)
 unfolding outcomeNumber
 number-says (closed n j) e h = absurd (h e)
 number-says full e h = (e, refl)
@@ -56,15 +56,15 @@ module _ (c : Counts) (words : List ℕ) (w n j : ℕ) where
 
 -- ---- the promises
 
-module _ (g : Given) (r : RunAnswer) (cubes verdict′ settled′ : List ℕ) (runs : Runs g r cubes verdict′ settled′) where
+module _ (g : RunGiven) (r : RunAnswer) (cubes verdict′ settled′ : List ℕ) (runs : Runs g r cubes verdict′ settled′) where
   module _ (done : r .number ≡ 0) where
     says : (refusedBy g ≡ 0) × (isClosed (outcomeIn g) ≡ true)
     says = zero-says (refusedBy g) (outcomeIn g) (sym done ∙ runs .answers)
 
-    taken : {A : Type 0} (new old : A) → accepted (refusedBy g) new old ≡ new
+    taken : {A : Type 0} (new old : A) → leftBy (refusedBy g) new old ≡ new
     taken new old = sym (accepted-new (refusedBy g) new old (says .0))
 
-    written : {A : Type 0} (new old : A) → accepted (r .number) new old ≡ new
+    written : {A : Type 0} (new old : A) → leftBy (r .number) new old ≡ new
     written new old = sym (accepted-new (r .number) new old done)
 
     n-is : r .cubes ≡ cubesIn g

@@ -7,7 +7,7 @@ use native.Mathlib.Decide.{decLt}
 use native.Mathlib.Omega.{arith}
 use Rattle.three.specs.Cube.{Cube, subsumes}
 use Rattle.circuit.specs.Circuit.{Circuit}
-use Rattle.cubes.specs.Run.{reached, stage, cubeAt, Found, at, nowhere, search, Outcome, closed, full, back, run}
+use Rattle.cubes.specs.Run.{reached, stage, cubeAt, Found, at, nowhere, search, Ending, closed, full, back, run}
 
 module _ (cubes : ℕ → Cube) (b : Cube) where
   -- a search through the first n cubes, and its result
@@ -60,7 +60,7 @@ module _ (c : Circuit) (w : ℕ) where
   looked k = searched (cubeAt c w) (reached c (stage c w k)) (suc k)
 
   -- a run with so much room, and its outcome
-  pub data Ran : ℕ → Outcome → Type 0 where
+  pub data Ran : ℕ → Ending → Type 0 where
     begun : Ran 0 full
     stays : {k n j : ℕ} → Ran k (closed n j) → Ran (suc k) (closed n j)
     closes : {k j : ℕ} → Ran k full → Looked k (at j) → Ran (suc k) (closed (suc k) j)
@@ -71,7 +71,7 @@ module _ (c : Circuit) (w : ℕ) where
   ran zero = begun
   ran (suc k) = go (run c w k) (back c w k) (ran k) (looked k)
     where
-      go : (o : Outcome) (f : Found) → Ran k o → Looked k f
+      go : (o : Ending) (f : Found) → Ran k o → Looked k f
           → Ran (suc k) (elim o [ closed n j ↦ closed n j | full ↦ elim f [ at j ↦ closed (suc k) j | nowhere ↦ full ] ])
       go (closed n j) f past l = stays past
       go full (at j) past l = closes past l
@@ -80,7 +80,7 @@ module _ (c : Circuit) (w : ℕ) where
   -- one step of the run
   run-step : (k : ℕ) {f : Found} → run c w k ≡ full → back c w k ≡ f → run c w (suc k) ≡ elim f [ at j ↦ closed (suc k) j | nowhere ↦ full ]
   unfolding run
-  run-step k e g = ap₂ {C = Outcome} (λ (o : Outcome) (f : Found). elim o [ closed n j ↦ closed n j | full ↦ elim f [ at j ↦ closed (suc k) j | nowhere ↦ full ] ]) e g
+  run-step k e g = ap₂ {C = Ending} (λ (o : Ending) (f : Found). elim o [ closed n j ↦ closed n j | full ↦ elim f [ at j ↦ closed (suc k) j | nowhere ↦ full ] ]) e g
 
   pub run-closes-now : (k j : ℕ) → run c w k ≡ full → back c w k ≡ at j → run c w (suc k) ≡ closed (suc k) j
   run-closes-now k j e g = run-step k e g
@@ -93,4 +93,4 @@ module _ (c : Circuit) (w : ℕ) where
   unfolding run
   run-stays k zero n j e = rw add-zero e
   run-stays k (suc more) n j e =
-      rw add-suc (ap {B = Outcome} (λ (o : Outcome). elim o [ closed n j ↦ closed n j | full ↦ elim (back c w (k + more)) [ at j ↦ closed (suc (k + more)) j | nowhere ↦ full ] ]) (run-stays k more n j e))
+      rw add-suc (ap {B = Ending} (λ (o : Ending). elim o [ closed n j ↦ closed n j | full ↦ elim (back c w (k + more)) [ at j ↦ closed (suc (k + more)) j | nowhere ↦ full ] ]) (run-stays k more n j e))

@@ -9,10 +9,10 @@ use Rattle.three.specs.Cube.{Cube, knownFields}
 use Rattle.three.specs.Record.{bytesFor, pack, unpack}
 use Rattle.circuit.specs.declared.Counts.{Counts}
 use Rattle.circuit.specs.Circuit.{Circuit}
-use Rattle.circuit.specs.Refusal.{Test, _or_, refusal, accepted}
+use Rattle.circuit.specs.Refusal.{Test, _or_, refusal, leftBy}
 use Rattle.circuit.specs.Table.{circuitOf, circuitTests}
 use Rattle.cubes.specs.declared.RunAnswer.{RunAnswer}
-use Rattle.cubes.specs.Run.{cubeAt, Outcome, closed, full, run, verdict, settled}
+use Rattle.cubes.specs.Run.{cubeAt, Ending, closed, full, run, verdict, settled}
 
 -- ---- cubes in the buffer
 
@@ -29,24 +29,24 @@ unfoldable pub roomIn : Counts → List ℕ → ℕ
 roomIn c buffer = length buffer / bytesFor (c .latches)
 
 -- how many cubes are stored: n, or all that there is room for
-unfoldable pub storedCubes : ℕ → Outcome → ℕ
+unfoldable pub storedCubes : ℕ → Ending → ℕ
 storedCubes room (closed n j) = n
 storedCubes room full = room
 
-unfoldable pub backTo : Outcome → ℕ
+unfoldable pub backTo : Ending → ℕ
 backTo (closed n j) = j
 backTo full = 0
 
 -- 15 where the run is not closed
-unfoldable pub outcomeNumber : Outcome → ℕ
+unfoldable pub outcomeNumber : Ending → ℕ
 outcomeNumber (closed n j) = 0
 outcomeNumber full = 15
 
 -- ---- the public call
 
 -- 10 for results, by their lengths
-unfoldable pub resultTests : Counts → ℕ → ℕ → List Test
-resultTests c verdict settled = leb (bytesFor (c .lamps)) verdict or 10 ∷ leb (bytesFor (c .latches)) settled or 10 ∷ []
+unfoldable pub runResultTests : Counts → ℕ → ℕ → List Test
+runResultTests c verdict settled = leb (bytesFor (c .lamps)) verdict or 10 ∷ leb (bytesFor (c .latches)) settled or 10 ∷ []
 
 -- 3, 10 for the table, 11, 12, 13, 10 for results; the buffers by their lengths
 unfoldable pub runTests : Counts → List ℕ → ℕ → ℕ → ℕ → ℕ → List Test
@@ -55,10 +55,10 @@ runTests c table w cubes verdict settled =
     ++ (leb w 1000 or 12
     ∷ leb (bytesFor (c .latches)) cubes or 13
     ∷ leb cubes 65536 or 13
-    ∷ resultTests c verdict settled)
+    ∷ runResultTests c verdict settled)
 
 -- What a run is given: counts, table, w, and the three buffers as they are lent
-pub record Given : Type 0 where
+pub record RunGiven : Type 0 where
   pub counts : Counts
   pub table : List ℕ
   pub w : ℕ
@@ -66,7 +66,7 @@ pub record Given : Type 0 where
   pub verdict : List ℕ
   pub settled : List ℕ
 
-module _ (g : Given) where
+module _ (g : RunGiven) where
   -- the first of the refusals before 15
   unfoldable pub refusedBy : ℕ
   refusedBy = refusal (runTests (g .counts) (g .table) (g .w) (length (g .cubes)) (length (g .verdict)) (length (g .settled)))
@@ -74,7 +74,7 @@ module _ (g : Given) where
   unfoldable pub circuitIn : Circuit
   circuitIn = circuitOf (g .counts) (g .table)
 
-  unfoldable pub outcomeIn : Outcome
+  unfoldable pub outcomeIn : Ending
   outcomeIn = run circuitIn (g .w) (roomIn (g .counts) (g .cubes))
 
   -- n and j; n = room where there is no room for the next cube
@@ -93,11 +93,11 @@ module _ (g : Given) where
 
 -- The contract of the run: what it answers, and every byte of the three buffers at exit.
 -- A refusal before 15 answers zeros and changes nothing; 15 answers n = room and stores that many cubes, and leaves verdict and settled record.
-pub record Runs (g : Given) (r : RunAnswer) (cubes verdict settled : List ℕ) : Type 0 where
-  pub answers : r .number ≡ accepted (refusedBy g) (outcomeNumber (outcomeIn g)) (refusedBy g)
-  pub counts : r .cubes ≡ accepted (refusedBy g) (cubesIn g) 0
-  pub goes-back : r .back ≡ accepted (refusedBy g) (backIn g) 0
-  pub settles : r .settled ≡ accepted (r .number) (knownFields (settledFields g)) 0
-  pub fills-cubes : cubes ≡ accepted (refusedBy g) (over (packedCubes (circuitIn g) (g .w) (cubesIn g)) (g .cubes)) (g .cubes)
-  pub fills-verdict : verdict ≡ accepted (r .number) (over (pack (verdictFields g)) (g .verdict)) (g .verdict)
-  pub fills-settled : settled ≡ accepted (r .number) (over (pack (settledFields g)) (g .settled)) (g .settled)
+pub record Runs (g : RunGiven) (r : RunAnswer) (cubes verdict settled : List ℕ) : Type 0 where
+  pub answers : r .number ≡ leftBy (refusedBy g) (outcomeNumber (outcomeIn g)) (refusedBy g)
+  pub counts : r .cubes ≡ leftBy (refusedBy g) (cubesIn g) 0
+  pub goes-back : r .back ≡ leftBy (refusedBy g) (backIn g) 0
+  pub settles : r .settled ≡ leftBy (r .number) (knownFields (settledFields g)) 0
+  pub fills-cubes : cubes ≡ leftBy (refusedBy g) (over (packedCubes (circuitIn g) (g .w) (cubesIn g)) (g .cubes)) (g .cubes)
+  pub fills-verdict : verdict ≡ leftBy (r .number) (over (pack (verdictFields g)) (g .verdict)) (g .verdict)
+  pub fills-settled : settled ≡ leftBy (r .number) (over (pack (settledFields g)) (g .settled)) (g .settled)

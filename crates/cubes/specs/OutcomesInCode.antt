@@ -3,9 +3,9 @@ use mathlib.Core.Bool.{Bool, true, false}
 use mathlib.Core.List.{List}
 use Prim.Native.Nat.{ℕ, _+_, _-_, _%_, min}
 use Rattle.three.specs.Cube.{Cube, _∋_}
-use Rattle.cubes.specs.Run.{Outcome, closed, full}
+use Rattle.cubes.specs.Run.{Ending, closed, full}
 
-unfoldable pub isClosed : Outcome → Bool
+unfoldable pub isClosed : Ending → Bool
 isClosed (closed n j) = true
 isClosed full = false
 

@@ -8,10 +8,10 @@ use Rattle.three.specs.Value.{unknown, known}
 use Rattle.three.specs.Cube.{_∋_}
 use Rattle.three.specs.Record.{unpack}
 use Rattle.cubes.specs.declared.RunAnswer.{RunAnswer}
-use Rattle.cubes.specs.Call.{cubeIn, Given, circuitIn, roomIn, refusedBy}
+use Rattle.cubes.specs.Call.{cubeIn, RunGiven, circuitIn, roomIn, refusedBy}
 use Rattle.cubes.specs.Execution.{stateAfter, lampsAfter, resets}
 
-module _ (g : Given) (r : RunAnswer) (cubes verdict settled : List ℕ) where
+module _ (g : RunGiven) (r : RunAnswer) (cubes verdict settled : List ℕ) where
   -- One execution from the resets: `switches t i` is switch i at tick t.
   pub record Covered (switches : ℕ → ℕ → Bool) : Type 0 where
     -- the state after t ticks lies in cube t, or in the loop's cube for it

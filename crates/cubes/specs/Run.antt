@@ -88,9 +88,9 @@ search cubes (suc n) b =
     ]
 
 -- closed with n cubes back to j, or no room for the next cube
-pub data Outcome : Type 0 where
-  closed : ℕ → ℕ → Outcome
-  full : Outcome
+pub data Ending : Type 0 where
+  closed : ℕ → ℕ → Ending
+  full : Ending
 
 module _ (c : Circuit) (w : ℕ) where
   -- where b after cube number k falls, among the cubes up to k
@@ -98,7 +98,7 @@ module _ (c : Circuit) (w : ℕ) where
   back k = search (cubeAt c w) (suc k) (reached c (stage c w k))
 
   -- the run with room for so many cubes
-  unfoldable pub run : ℕ → Outcome
+  unfoldable pub run : ℕ → Ending
   run zero = full
   run (suc k) =
       elim (run k) [

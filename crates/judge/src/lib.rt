@@ -10,7 +10,7 @@ ghost use Rattle.circuit.specs.Table.{circuitOf};
 ghost use Rattle.circuit.specs.RulesInCode.{Legal};
 ghost use Rattle.cubes.specs.Run.{lampsIn, verdict as verdictOf, settled as settledOf};
 ghost use Rattle.cubes.specs.Call.{cubeIn};
-ghost use Rattle.stored.specs.CubesInCode.{Ready};
+ghost use Rattle.stored.specs.CubesInCode.{SwitchesX};
 ghost use Rattle.judge.specs.JudgeInCode.{Judgeable, Settleable, Judgement};
 
 // The record of the lamps in the cube at byte `at`.
@@ -22,8 +22,8 @@ fn lamps_at(
     values: &mut [u8; 4096],
     out: &mut [u8],
 )
-    requires { ⌜ Legal counts (now table) × (at ≤ length (now cubes)) × IsRecord (counts .latches) (drop at (now cubes)) × Ready counts (now values) × (bytesFor (counts .lamps) ≤ length (now out)) ⌝ }
-    ensures { λ _. ⌜ Ready counts (now (values .exit)) × (now (out .exit) ≡ over (pack (lampsIn (circuitOf counts (now (table .entry))) (unpack (counts .latches) (drop at (now (cubes .entry)))))) (now (out .entry))) ⌝ }
+    requires { ⌜ Legal counts (now table) × (at ≤ length (now cubes)) × IsRecord (counts .latches) (drop at (now cubes)) × SwitchesX counts (now values) × (bytesFor (counts .lamps) ≤ length (now out)) ⌝ }
+    ensures { λ _. ⌜ SwitchesX counts (now (values .exit)) × (now (out .exit) ≡ over (pack (lampsIn (circuitOf counts (now (table .entry))) (unpack (counts .latches) (drop at (now (cubes .entry)))))) (now (out .entry))) ⌝ }
 {
     pass::settle_state(counts, table, &cubes[at..], values);
     pass::store(values, table, 2 * counts.latches, 1, counts.lamps, out);

@@ -8,7 +8,7 @@ ghost use lib.Seq.{paste};
 ghost use Rattle.three.specs.Lists.{every, over};
 ghost use Rattle.three.specs.Value.{unknown, low, code, decode, both, ternary, gateTable};
 ghost use Rattle.three.specs.Record.{bytesFor, byteAt, pack, unpack, IsRecord};
-ghost use Rattle.circuit.specs.Circuit.{value, pass, settle as settled};
+ghost use Rattle.circuit.specs.Circuit.{value, pass, settle as settleValues};
 ghost use Rattle.circuit.specs.Table.{circuitOf};
 ghost use Rattle.circuit.specs.RulesInCode.{Legal};
 ghost use Rattle.pass.specs.ValuesInCode.{valuesOf, Working, Holding, Begins, signTable, Gateable, Readable, literalValues, passed};
@@ -109,7 +109,7 @@ pub fn settle_state(counts: Counts, table: &[u16], state: &[u8], values: &mut [u
 // One pass: the constant, the switches, the state, and then each gate in order.
 pub fn settle(counts: Counts, table: &[u16], state: &[u8], switches: &[u8], values: &mut [u8; 4096])
     requires { ⌜ Legal counts (now table) × IsRecord (counts .latches) (now state) × IsRecord (counts .inputs) (now switches) × Working (now values) ⌝ }
-    ensures { λ _. ⌜ Begins (now (values .exit)) (settled ternary (circuitOf counts (now (table .entry))) (unpack (counts .inputs) (now (switches .entry))) (unpack (counts .latches) (now (state .entry)))) ⌝ }
+    ensures { λ _. ⌜ Begins (now (values .exit)) (settleValues ternary (circuitOf counts (now (table .entry))) (unpack (counts .inputs) (now (switches .entry))) (unpack (counts .latches) (now (state .entry)))) ⌝ }
 {
     put_variable(values, 0, 1);
     load(switches, 1, counts.inputs, values);

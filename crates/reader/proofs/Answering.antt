@@ -19,7 +19,7 @@ use Rattle.text.specs.Calls.{zeros, Reading}
 use Rattle.lines.specs.declared.ReadLine.{ReadLine}
 use Rattle.reader.specs.declared.Judgement.{Judgement}
 use Rattle.lines.specs.LinesInCode.{from, numbersOf, LineFound}
-use Rattle.reader.specs.ReaderInCode.{verdict, answer, BodyAt, TextJudged, bodyWords, stand, Fillable}
+use Rattle.reader.specs.ReaderInCode.{bare, answer, BodyAt, TextJudged, bodyWords, stand, Fillable}
 use Rattle.circuit.proofs.Refusals.{passes}
 use Rattle.text.proofs.Tables.{passed-bounded}
 use Rattle.text.proofs.Steps.{text-long, header-ill, header-stops, header-fits}
@@ -60,11 +60,11 @@ module _ (text : List ℕ) where
         unfolding headerTests ceilingTests
         judged-bounded = rw k (passed-bounded _ (passes (headerTests (numbersOf l)) (omega arith) (sym h ∙ e) .1 .1))
 
-        pub judged-body : {m : ℕ} → verdict (readBody (top c) (kinds c) (from text (l .next))) ≡ answer m → TextJudged text (record { number = m; counts = c; body = l .next })
+        pub judged-body : {m : ℕ} → bare (readBody (top c) (kinds c) (from text (l .next))) ≡ answer m → TextJudged text (record { number = m; counts = c; body = l .next })
         judged-body v =
             let on : readText text ≡ onward (λ ws. record { counts = c; words = ws }) (readBody (top c) (kinds c) (from text (l .next))) =
             rw k (header-fits text short header-five (sym h ∙ e)) in
-            record { says = ap verdict on ∙ verdict-onward _ _ ∙ v; starts = λ z. record { bounded = judged-bounded; within = f .within; on = on } }
+            record { says = ap bare on ∙ verdict-onward _ _ ∙ v; starts = λ z. record { bounded = judged-bounded; within = f .within; on = on } }
 
 -- ---- the reader
 
@@ -80,7 +80,7 @@ module _ (text table : List ℕ) {j : Judgement} (t : TextJudged text j) where
     body-accepted : readBody (top (j .counts)) (kinds (j .counts)) (from text (j .body)) ≡ accepted (bodyWords (j .counts) (kinds (j .counts)) (from text (j .body)))
     unfolding bodyWords leaves
     body-accepted =
-        let a = accepted-verdict _ (sym (verdict-onward _ _) ∙ sym (ap verdict (starts .on)) ∙ t .says ∙ after-none _ h) in
+        let a = accepted-verdict _ (sym (verdict-onward _ _) ∙ sym (ap bare (starts .on)) ∙ t .says ∙ after-none _ h) in
         a .1 ∙ ap accepted (sym (ap (leaves (λ ws. ws) _) (a .1)))
 
     text-accepted : readText text ≡ accepted (record { counts = j .counts; words = bodyWords (j .counts) (kinds (j .counts)) (from text (j .body)) })

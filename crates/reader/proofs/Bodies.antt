@@ -19,7 +19,7 @@ use Rattle.text.specs.Text.{fits, lineTests, ends, readBody}
 use Rattle.lines.specs.declared.ReadLine.{ReadLine}
 use Rattle.reader.specs.declared.Judged.{Judged}
 use Rattle.lines.specs.LinesInCode.{from, counted, numbersOf, LineFound}
-use Rattle.reader.specs.ReaderInCode.{verdict, answer, LinesJudged, latchesOn, lampsOn, gatesOn}
+use Rattle.reader.specs.ReaderInCode.{bare, answer, LinesJudged, latchesOn, lampsOn, gatesOn}
 use Rattle.text.specs.KindsInCode.{coded}
 use Rattle.text.proofs.Outcomes.{refused-accepted}
 use Rattle.text.proofs.Steps.{end-stops, end-fits, line-ill, line-stops, line-fits}
@@ -49,22 +49,22 @@ line-read l f e = by-test (ltb 0 (l .count))
 
 -- ---- verdicts
 
-pub verdict-onward : {A B : Type 0} (f : A → B) (o : Outcome A) → verdict (onward f o) ≡ verdict o
-unfolding verdict onward
+pub verdict-onward : {A B : Type 0} (f : A → B) (o : Outcome A) → bare (onward f o) ≡ bare o
+unfolding bare onward
 verdict-onward f (accepted a) = refl
 verdict-onward f (refused n) = refl
 
-pub verdict-refused : {A : Type 0} {o : Outcome A} {n : ℕ} → o ≡ refused n → verdict o ≡ refused n
-unfolding verdict onward
+pub verdict-refused : {A : Type 0} {o : Outcome A} {n : ℕ} → o ≡ refused n → bare o ≡ refused n
+unfolding bare onward
 verdict-refused e = rw e
 
-pub refused-verdict : {A : Type 0} (o : Outcome A) {n : ℕ} → verdict o ≡ refused n → o ≡ refused n
-unfolding verdict onward
+pub refused-verdict : {A : Type 0} (o : Outcome A) {n : ℕ} → bare o ≡ refused n → o ≡ refused n
+unfolding bare onward
 refused-verdict (accepted a) e = absurd (refused-accepted (sym e))
 refused-verdict (refused m) e = cc
 
-pub accepted-verdict : {A : Type 0} (o : Outcome A) → verdict o ≡ accepted tt → (a : A) × (o ≡ accepted a)
-unfolding verdict onward
+pub accepted-verdict : {A : Type 0} (o : Outcome A) → bare o ≡ accepted tt → (a : A) × (o ≡ accepted a)
+unfolding bare onward
 accepted-verdict (accepted a) e = (a, refl)
 accepted-verdict (refused n) e = absurd (refused-accepted e)
 
@@ -98,8 +98,8 @@ line-judged text at most k l n f e = record {
 }
   where
     on : (ks : List Kind) (n : ℕ) → n ≡ refusal (lineTests most k (numbersOf l)) → splitLine 3 (from text at) ≡ got (numbersOf l) (from text (l .next))
-        → verdict (readBody most (k ∷ ks) (from text at)) ≡ after n (verdict (readBody most ks (from text (l .next))))
-    on ks zero h g = ap verdict (line-fits most k ks _ g h) ∙ verdict-onward _ _ ∙ sym (after-none _ refl)
+        → bare (readBody most (k ∷ ks) (from text at)) ≡ after n (bare (readBody most ks (from text (l .next))))
+    on ks zero h g = ap bare (line-fits most k ks _ g h) ∙ verdict-onward _ _ ∙ sym (after-none _ refl)
     on ks (suc n) h g = verdict-refused (line-stops most k ks _ g h) ∙ sym (after-refused (suc n) _ (λ q. omega arith))
 
 -- ---- the first pass: the end of the text
@@ -132,14 +132,14 @@ module _ (text : List ℕ) (at most : ℕ) (kind : ℕ → Kind) (own n : ℕ) w
   pub record Turns (next i : ℕ) : Type 0 where
     pub few : i ≤ n
     pub within : next ≤ length text
-    pub same : (ks : List Kind) → verdict (readBody most (several kind own n ks) (from text at)) ≡ verdict (readBody most (linesFrom kind own n ks i) (from text next))
+    pub same : (ks : List Kind) → bare (readBody most (several kind own n ks) (from text at)) ≡ bare (readBody most (linesFrom kind own n ks i) (from text next))
 
   pub turns-first : at ≤ length text → Turns at 0
-  turns-first h = record { few = omega arith; within = h; same = λ ks. ap (λ l. verdict (readBody most l (from text at))) (lines-first kind own n ks) }
+  turns-first h = record { few = omega arith; within = h; same = λ ks. ap (λ l. bare (readBody most l (from text at))) (lines-first kind own n ks) }
 
   module _ {next i : ℕ} (s : Turns next i) where
     module _ (h : i < n) {j : Judged} (f : LinesJudged text next most (λ ks. kind (own + 2 * i) ∷ ks) j) where
-      line-says : (ks : List Kind) → verdict (readBody most (several kind own n ks) (from text at)) ≡ after (j .number) (verdict (readBody most (linesFrom kind own n ks (i + 1)) (from text (j .next))))
+      line-says : (ks : List Kind) → bare (readBody most (several kind own n ks) (from text at)) ≡ after (j .number) (bare (readBody most (linesFrom kind own n ks (i + 1)) (from text (j .next))))
       line-says ks = s .same ks ∙ rw (lines-next kind own n ks i h) (f .says _)
 
       pub turns-stop : (j .number ≡ 0 → ⊥) → LinesJudged text at most (several kind own n) j
@@ -150,26 +150,26 @@ module _ (text : List ℕ) (at most : ℕ) (kind : ℕ → Kind) (own n : ℕ) w
 
     pub turns-last : n ≤ i → LinesJudged text at most (several kind own n) (record { number = 0; next = next })
     turns-last h = record {
-      says = λ ks. s .same ks ∙ ap (λ l. verdict (readBody most l (from text next))) (lines-last kind own n ks i h) ∙ sym (after-none _ refl);
+      says = λ ks. s .same ks ∙ ap (λ l. bare (readBody most l (from text next))) (lines-last kind own n ks i h) ∙ sym (after-none _ refl);
       within = s .within;
     }
 
 -- ---- the first pass: the lines of each kind in turn, and then the end; the first refusal decides
 
 module _ {text : List ℕ} {at most : ℕ} {lines : List Kind → List Kind} {j : Judged} (a : LinesJudged text at most lines j) (ks : List Kind) where
-  judged-stop : (j .number ≡ 0 → ⊥) → verdict (readBody most (lines ks) (from text at)) ≡ answer (j .number)
+  judged-stop : (j .number ≡ 0 → ⊥) → bare (readBody most (lines ks) (from text at)) ≡ answer (j .number)
   judged-stop z = a .says ks ∙ after-refused _ _ z ∙ sym (after-refused _ _ z)
 
-  judged-on : j .number ≡ 0 → verdict (readBody most (lines ks) (from text at)) ≡ verdict (readBody most ks (from text (j .next)))
+  judged-on : j .number ≡ 0 → bare (readBody most (lines ks) (from text at)) ≡ bare (readBody most ks (from text (j .next)))
   judged-on z = a .says ks ∙ after-none _ z
 
 module _ (text : List ℕ) (at : ℕ) (c : Counts) where
   -- the lines left decide, from the position where they stand
   abbrev Left : List Kind → ℕ → Type 0
-  Left ks next = verdict (readBody (top c) (kinds c) (from text at)) ≡ verdict (readBody (top c) ks (from text next))
+  Left ks next = bare (readBody (top c) (kinds c) (from text at)) ≡ bare (readBody (top c) ks (from text next))
 
   abbrev Says : ℕ → Type 0
-  Says n = verdict (readBody (top c) (kinds c) (from text at)) ≡ answer n
+  Says n = bare (readBody (top c) (kinds c) (from text at)) ≡ answer n
 
   module _ {i : Judged} (inputs : LinesJudged text at (top c) (several (coded 0) 2 (c .inputs)) i) where
     pub stop-inputs : (i .number ≡ 0 → ⊥) → Says (i .number)
@@ -213,5 +213,5 @@ module _ (text : List ℕ) (at : ℕ) (c : Counts) where
             end-over f = to-end ∙ verdict-refused (end-stops (top c) _ (sym e ∙ f))
 
             pub end-last : b ≡ true → Says 0
-            unfolding after verdict onward
-            end-last f = to-end ∙ ap verdict (end-fits (top c) (from text (l .next)) (sym e ∙ f))
+            unfolding after bare onward
+            end-last f = to-end ∙ ap bare (end-fits (top c) (from text (l .next)) (sym e ∙ f))

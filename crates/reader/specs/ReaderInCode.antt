@@ -23,8 +23,8 @@ opened text = elim (strip magic text) [ got u r ↦ true | ill ↦ false ]
 -- ---- the first pass
 
 -- an outcome without what is read
-unfoldable pub verdict : {A : Type 0} → Outcome A → Outcome (Unit {0})
-verdict o = onward (λ a. tt) o
+unfoldable pub bare : {A : Type 0} → Outcome A → Outcome (Unit {0})
+bare o = onward (λ a. tt) o
 
 -- the same from its number
 abbrev pub answer : ℕ → Outcome (Unit {0})
@@ -32,7 +32,7 @@ answer n = after n (accepted tt)
 
 -- Lines judged that stand in front of any others: their refusal, or else the others decide
 pub record LinesJudged (text : List ℕ) (at most : ℕ) (lines : List Kind → List Kind) (j : Judged) : Type 0 where
-  pub says : (ks : List Kind) → verdict (readBody most (lines ks) (from text at)) ≡ after (j .number) (verdict (readBody most ks (from text (j .next))))
+  pub says : (ks : List Kind) → bare (readBody most (lines ks) (from text at)) ≡ after (j .number) (bare (readBody most ks (from text (j .next))))
   pub within : j .next ≤ length text
 
 -- The first line is as it should be, and the body starts at `at`
@@ -43,7 +43,7 @@ pub record BodyAt (text : List ℕ) (c : Counts) (at : ℕ) : Type 0 where
 
 -- A text judged
 pub record TextJudged (text : List ℕ) (j : Judgement) : Type 0 where
-  pub says : verdict (readText text) ≡ answer (j .number)
+  pub says : bare (readText text) ≡ answer (j .number)
   pub starts : j .number ≡ 0 → BodyAt text (j .counts) (j .body)
 
 -- ---- the second pass

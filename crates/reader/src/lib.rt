@@ -18,7 +18,7 @@ ghost use Rattle.circuit.specs.RulesInCode.{Bounded};
 ghost use Rattle.text.specs.Text.{lineTests, ends, readBody, header as firstLine, countsOf, headerTests};
 ghost use Rattle.text.specs.Calls.{zeros, Reading};
 ghost use Rattle.lines.specs.LinesInCode.{from, Shape, numbersOf, LineFound};
-ghost use Rattle.reader.specs.ReaderInCode.{opened, verdict, answer, LinesJudged, TextJudged, pairOf, WordsFit, bodyWords, stand, latchesOn, lampsOn, gatesOn, Fillable, Filled};
+ghost use Rattle.reader.specs.ReaderInCode.{opened, bare, answer, LinesJudged, TextJudged, pairOf, WordsFit, bodyWords, stand, latchesOn, lampsOn, gatesOn, Fillable, Filled};
 ghost use Rattle.text.specs.KindsInCode.{coded};
 
 // "At most 60,000 bytes."
@@ -237,7 +237,7 @@ fn ended(text: &[u8], at: usize) -> bool
 // Line by line, and then 9; 0 for no refusal. "one line for each input, latch, lamp and gate, in that order"
 fn judge_body(text: &[u8], at: usize, counts: Counts) -> u32
     requires { ⌜ Bounded counts × (at ≤ length (now text)) ⌝ }
-    ensures { λ r. ⌜ verdict (readBody (top counts) (kinds counts) (from (now (text .entry)) at)) ≡ answer r ⌝ }
+    ensures { λ r. ⌜ bare (readBody (top counts) (kinds counts) (from (now (text .entry)) at)) ≡ answer r ⌝ }
 {
     let latch = 2 + 2 * counts.inputs;
     let gate = latch + 2 * counts.latches;

@@ -25,7 +25,7 @@ use Rattle.putting.proofs.Putting.{put-over}
 use Rattle.text.proofs.Numbers.{read-numbered}
 use Rattle.cubes.specs.declared.RunAnswer.{RunAnswer}
 use Rattle.cubes.specs.Run.{run}
-use Rattle.cubes.specs.Call.{roomIn, Given, refusedBy, circuitIn, outcomeIn, Runs}
+use Rattle.cubes.specs.Call.{roomIn, RunGiven, refusedBy, circuitIn, outcomeIn, Runs}
 use Rattle.run.proofs.Refusing.{run-passes}
 use Rattle.cubes.proofs.Promising.{outcome-is, verdict-is, settled-is, count-is, only-full}
 use Rattle.rows.specs.declared.Row.{Row}
@@ -87,7 +87,7 @@ few read = rw (read .counts-are) (read .carries .few)
 -- ---- what is run
 
 module _ {text : List ℕ} {counts : Counts} {table : List ℕ} (read : Read text counts table) (cubes verdict settled : List ℕ) (c : length cubes ≡ 65536) (v : length verdict ≡ 16) (s : length settled ≡ 128) where
-  abbrev pub given : Given
+  abbrev pub given : RunGiven
   given = record { counts = counts; table = table; w = 16; cubes = cubes; verdict = verdict; settled = settled }
 
   legal : 0 ≡ refusal (circuitTests counts table)

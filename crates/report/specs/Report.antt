@@ -11,7 +11,7 @@ use Rattle.circuit.specs.Table.{circuitOf}
 use Rattle.text.specs.Outcome.{Outcome, accepted, refused}
 use Rattle.text.specs.Text.{Content, readText}
 use Rattle.text.specs.Bench.{bytes}
-use Rattle.cubes.specs.Run.{cubeAt, Outcome as Ending, closed, full, run, verdict, settled}
+use Rattle.cubes.specs.Run.{cubeAt, Ending, closed, full, run, verdict, settled}
 use Rattle.rows.specs.declared.Row.{Row}
 use Rattle.rows.specs.Rows.{item, rows}
 

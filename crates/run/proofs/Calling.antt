@@ -1,14 +1,14 @@
 -- The public run: what it answers and leaves where it is refused, where there is no room for a cube more, and where it closes. Assumes nothing.
 use mathlib.Core.Path.{_≡_, refl, sym, ap, ap₂, _∙_}
-use mathlib.Core.Bool.{true, false, true≢false, false≢true}
+use mathlib.Core.Bool.{true, false}
 use mathlib.Core.List.{List}
-use Prim.Native.Nat.{ℕ, zero, suc, _+_, _*_, _-_, _<_, _≤_}
+use Prim.Native.Nat.{ℕ, _*_, _-_, _<_, _≤_}
 use native.Mathlib.Nat.{mul-le-mul-right, div-mul-le-self}
 use native.Mathlib.Omega.{arith}
-use lib.ListN.{length, drop}
+use lib.ListN.{length}
 use Rattle.three.specs.Lists.{over}
-use Rattle.three.specs.Cube.{Cube, merged, knownFields}
-use Rattle.three.specs.Record.{bytesFor, pack, unpack}
+use Rattle.three.specs.Cube.{Cube, knownFields}
+use Rattle.three.specs.Record.{bytesFor, pack}
 use Rattle.circuit.specs.declared.Counts.{Counts}
 use Rattle.circuit.specs.Circuit.{Circuit}
 use Rattle.circuit.specs.Refusal.{refusal}
@@ -16,14 +16,12 @@ use Rattle.circuit.specs.Table.{circuitOf}
 use Rattle.circuit.specs.RulesInCode.{Legal}
 use Rattle.circuit.proofs.Refusals.{refused-old, accepted-new}
 use Rattle.chain.specs.declared.Chain.{Chain}
-use Rattle.cubes.specs.Run.{lampsIn, cubeAt, Outcome, closed, full, run, merge, verdict, settled}
-use Rattle.cubes.specs.Call.{cubeIn, packedCubes}
-use Rattle.cubes.specs.Call.{roomIn, storedCubes, backTo, outcomeNumber, runTests, Given, refusedBy, circuitIn, outcomeIn, cubesIn, backIn, verdictFields, settledFields, Runs}
-use Rattle.cubes.specs.OutcomesInCode.{isClosed}
+use Rattle.cubes.specs.Run.{cubeAt, closed, run, verdict, settled}
+use Rattle.cubes.specs.Call.{cubeIn, packedCubes, roomIn, storedCubes, backTo, runTests, RunGiven, refusedBy, circuitIn, outcomeIn, cubesIn, backIn, verdictFields, settledFields, Runs}
 use Rattle.chain.specs.ChainInCode.{Chained}
 use Rattle.judge.specs.JudgeInCode.{Judgeable, Judgement}
-use Rattle.cubes.proofs.Steps.{found, Ran, stays, closes, ran}
-use Rattle.cubes.proofs.Storing.{records, records-sized, stored-cube, stored-sound}
+use Rattle.cubes.proofs.Steps.{closes}
+use Rattle.cubes.proofs.Storing.{records, records-sized, stored-sound}
 use Rattle.cubes.proofs.Buffered.{cubes-sized, closed-within, cube-in, full-is, verdict-same, settled-same, closed-number}
 use Rattle.cubes.proofs.Merging.{length-over}
 
@@ -62,7 +60,7 @@ module _ (c : Counts) (words : List ℕ) (w : ℕ) (buffer : List ℕ) where
 
 -- ---- the call
 
-module _ (g : Given) where
+module _ (g : RunGiven) where
   pub run-refused : {k : ℕ} → k ≡ refusal (runTests (g .counts) (g .table) (g .w) (length (g .cubes)) (length (g .verdict)) (length (g .settled))) → (k ≡ 0 → ⊥) → Runs g (record { number = k; cubes = 0; back = 0; settled = 0 }) (g .cubes) (g .verdict) (g .settled)
   unfolding refusedBy
   run-refused {k} e h =

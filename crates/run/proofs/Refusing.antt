@@ -7,12 +7,11 @@ use borrow.Author.Tests.{le-leb, lt-leb, leb-true}
 use Rattle.three.specs.Record.{bytesFor}
 use Rattle.circuit.specs.declared.Counts.{Counts}
 use Rattle.circuit.specs.Refusal.{Test, refusal}
-use Rattle.circuit.specs.Table.{ceilingTests}
+use Rattle.circuit.specs.Table.{ceilingTests, circuitTests}
 use Rattle.circuit.specs.RulesInCode.{Legal}
-use Rattle.circuit.specs.Table.{circuitTests}
 use Rattle.circuit.proofs.Refusals.{Numbered, stops, past, none, passes, passed-append, refuses-whole, append-past}
 use Rattle.circuit.proofs.Legality.{circuit-numbered, legal-passed}
-use Rattle.cubes.specs.Call.{runTests, resultTests}
+use Rattle.cubes.specs.Call.{runTests, runResultTests}
 
 module _ (c : Counts) (table : List ℕ) (w n v s : ℕ) where
   abbrev number : ℕ
@@ -41,20 +40,20 @@ module _ (c : Counts) (table : List ℕ) (w n v s : ℕ) where
         cubes-over h = past-circuit _ (past _ _ (le-leb w 1000 lw) (past _ _ (le-leb (bytesFor (c .latches)) n ln) (stops _ _ (lt-leb n 65536 h))))
 
         module _ (mn : n ≤ 65536) where
-          past-cubes : {k : ℕ} → k ≡ refusal (resultTests c v s) → k ≡ number
-          unfolding runTests resultTests
+          past-cubes : {k : ℕ} → k ≡ refusal (runResultTests c v s) → k ≡ number
+          unfolding runTests runResultTests
           past-cubes e = past-circuit _ (past _ _ (le-leb w 1000 lw) (past _ _ (le-leb (bytesFor (c .latches)) n ln) (past _ _ (le-leb n 65536 mn) e)))
 
           pub verdict-short : v < bytesFor (c .lamps) → 10 ≡ number
-          unfolding resultTests
+          unfolding runResultTests
           verdict-short h = past-cubes (stops _ _ (lt-leb (bytesFor (c .lamps)) v h))
 
           pub settled-short : bytesFor (c .lamps) ≤ v → s < bytesFor (c .latches) → 10 ≡ number
-          unfolding resultTests
+          unfolding runResultTests
           settled-short lv h = past-cubes (past _ _ (le-leb (bytesFor (c .lamps)) v lv) (stops _ _ (lt-leb (bytesFor (c .latches)) s h)))
 
           pub run-passes : bytesFor (c .lamps) ≤ v → bytesFor (c .latches) ≤ s → 0 ≡ number
-          unfolding resultTests
+          unfolding runResultTests
           run-passes lv ls = past-cubes (past _ _ (le-leb (bytesFor (c .lamps)) v lv) (past _ _ (le-leb (bytesFor (c .latches)) s ls) none))
 
   -- what holds where none is given
@@ -67,11 +66,11 @@ module _ (c : Counts) (table : List ℕ) (w n v s : ℕ) where
     pub settled-fits : bytesFor (c .latches) ≤ s
 
   numbered : Numbered (runTests c table w n v s)
-  unfolding runTests circuitTests ceilingTests resultTests
+  unfolding runTests circuitTests ceilingTests runResultTests
   numbered = omega arith
 
   pub accepted-run : 0 ≡ number → Accepted
-  unfolding runTests resultTests
+  unfolding runTests runResultTests
   accepted-run e =
       let p = passed-append (circuitTests c table) _ (passes (runTests c table w n v s) numbered e) in
       let q = p .1 in

@@ -20,7 +20,7 @@ use Rattle.pass.specs.ValuesInCode.{valuesOf, Holding, Begins, literalValues}
 use Rattle.pass.proofs.Settling.{next-stored, lamps-stored}
 use Rattle.pass.proofs.Values.{length-literals}
 use Rattle.cubes.specs.Run.{switchesUnknown, nextCube, lampsIn}
-use Rattle.stored.specs.CubesInCode.{keptByte, keptBytes, Ready}
+use Rattle.stored.specs.CubesInCode.{keptByte, keptBytes, SwitchesX}
 
 -- a pass leaves what it starts from
 pass-front : (vs ws : List Three) (gs : List Gate) → take (length vs) (pass ternary (vs ++ ws) gs) ≡ vs
@@ -41,14 +41,14 @@ module _ (c : Counts) (words : List ℕ) where
   length-front : length front ≡ 1 + c .inputs
   length-front = rw (one-add) (ap suc (length-replicate (c .inputs) unknown))
 
-  pub ready-settles : (t t′ : List ℕ) (state : Cube) → Ready c t → Begins t′ (pass ternary (take (1 + c .inputs) (valuesOf t) ++ state) (circuitOf c words .gates))
+  pub ready-settles : (t t′ : List ℕ) (state : Cube) → SwitchesX c t → Begins t′ (pass ternary (take (1 + c .inputs) (valuesOf t) ++ state) (circuitOf c words .gates))
       → Begins t′ (settle ternary (circuitOf c words) (switchesUnknown (circuitOf c words)) state)
   unfolding settle ternary switchesUnknown circuitOf
   ready-settles t t′ state r b =
       let known : take (1 + c .inputs) (valuesOf t) ≡ front = rw (← length-front) (r .same) in
       rw known at b
 
-  pub ready-again : (t : List ℕ) (state : Cube) → Begins t (settle ternary (circuitOf c words) (switchesUnknown (circuitOf c words)) state) → Ready c t
+  pub ready-again : (t : List ℕ) (state : Cube) → Begins t (settle ternary (circuitOf c words) (switchesUnknown (circuitOf c words)) state) → SwitchesX c t
   unfolding settle ternary switchesUnknown circuitOf
   ready-again t state b = record {
     working = b .working;
@@ -73,7 +73,7 @@ take-replicate (suc m) (suc n) h = ap (λ l. unknown ∷ l) (take-replicate m n 
 front-taken : (m n : ℕ) → m ≤ n → take (suc m) (set (map decode (replicate (suc n) 0)) 0 low) ≡ low ∷ replicate m unknown
 front-taken m n h = ap (λ (l : List Three). low ∷ l) (ap (take m) (zeros-unknown n) ∙ take-replicate m n h)
 
-pub fresh-ready : (c : Counts) (t : List ℕ) → c .inputs ≤ 256 → Holding t (set (valuesOf (replicate 4096 0)) 0 (decode 1)) → Ready c t
+pub fresh-ready : (c : Counts) (t : List ℕ) → c .inputs ≤ 256 → Holding t (set (valuesOf (replicate 4096 0)) 0 (decode 1)) → SwitchesX c t
 unfolding valuesOf decode
 fresh-ready c t h put = record {
   working = put .working;

@@ -34,5 +34,5 @@ first zero p = 0
 first (suc n) p = elim (p 0) [ true ↦ 0 | false ↦ suc (first n (λ i. p (suc i))) ]
 
 -- a working table with the constant and all switches X
-abbrev pub Ready : Counts → List ℕ → Type 0
-Ready c table = Begins table (low ∷ replicate (c .inputs) unknown)
+abbrev pub SwitchesX : Counts → List ℕ → Type 0
+SwitchesX c table = Begins table (low ∷ replicate (c .inputs) unknown)

@@ -10,7 +10,7 @@ ghost use Rattle.three.specs.Record.{bytesFor, byteAt, pack, unpack, IsRecord};
 ghost use Rattle.circuit.specs.Table.{circuitOf};
 ghost use Rattle.circuit.specs.RulesInCode.{Legal};
 ghost use Rattle.cubes.specs.Run.{nextCube};
-ghost use Rattle.stored.specs.CubesInCode.{startFields, keptByte, keptBytes, coversFrom, first, Ready};
+ghost use Rattle.stored.specs.CubesInCode.{startFields, keptByte, keptBytes, coversFrom, first, SwitchesX};
 
 // Field number i of cube 0; a field beyond the latches is X.
 fn start_field(table: &[u16], count: usize, i: usize) -> u8
@@ -75,8 +75,8 @@ pub fn reach(
     values: &mut [u8; 4096],
     b: &mut [u8; 128],
 )
-    requires { ⌜ Legal counts (now table) × (at ≤ length (now cubes)) × IsRecord (counts .latches) (drop at (now cubes)) × Ready counts (now values) × (length (now b) ≡ 128) ⌝ }
-    ensures { λ _. ⌜ Ready counts (now (values .exit)) × (now (b .exit) ≡ paste (now (b .entry)) 0 (keptBytes (bytesFor (counts .latches)) held (pack (nextCube (circuitOf counts (now (table .entry))) (unpack (counts .latches) (drop at (now (cubes .entry))))))) (bytesFor (counts .latches))) ⌝ }
+    requires { ⌜ Legal counts (now table) × (at ≤ length (now cubes)) × IsRecord (counts .latches) (drop at (now cubes)) × SwitchesX counts (now values) × (length (now b) ≡ 128) ⌝ }
+    ensures { λ _. ⌜ SwitchesX counts (now (values .exit)) × (now (b .exit) ≡ paste (now (b .entry)) 0 (keptBytes (bytesFor (counts .latches)) held (pack (nextCube (circuitOf counts (now (table .entry))) (unpack (counts .latches) (drop at (now (cubes .entry))))))) (bytesFor (counts .latches))) ⌝ }
 {
     pass::settle_state(counts, table, &cubes[at..], values);
     let mut next = [0u8; 128];

@@ -7,9 +7,8 @@ use borrow.Author.Tests.{le-leb, lt-leb}
 use lib.ListN.{length}
 use Rattle.three.specs.Lists.{over}
 use Rattle.circuit.specs.declared.Counts.{Counts}
-use Rattle.circuit.specs.Refusal.{refusal, accepted as afterwards}
-use Rattle.circuit.specs.Table.{tableLength}
-use Rattle.circuit.specs.Table.{circuitTests}
+use Rattle.circuit.specs.Refusal.{refusal, leftBy as afterwards}
+use Rattle.circuit.specs.Table.{tableLength, circuitTests}
 use Rattle.circuit.proofs.Refusals.{append-past, stops, past, none, refusal-append}
 use Rattle.text.specs.Outcome.{accepted, refused, numberOf, further, leaves}
 use Rattle.text.specs.Text.{writeText, Content, readText}

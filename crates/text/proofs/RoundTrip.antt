@@ -7,10 +7,9 @@ use lib.ListN.{length, take, drop, length-drop, length-append}
 use lib.Seq.{take-add, take-at, drop-at, length-take-le, take-append-seam}
 use Rattle.three.specs.Lists.{over}
 use Rattle.circuit.specs.declared.Counts.{Counts}
-use Rattle.circuit.specs.Refusal.{Test, refusal, accepted as afterwards}
-use Rattle.circuit.specs.Table.{top, tableLength, Kind, input, latch, lamp, gate, kinds, width, rowTests, tableTests}
+use Rattle.circuit.specs.Refusal.{Test, refusal, leftBy as afterwards}
+use Rattle.circuit.specs.Table.{top, tableLength, Kind, input, latch, lamp, gate, kinds, width, rowTests, tableTests, circuitTests}
 use Rattle.circuit.specs.RulesInCode.{Bounded}
-use Rattle.circuit.specs.Table.{circuitTests}
 use Rattle.text.specs.Outcome.{accepted}
 use Rattle.text.specs.Text.{shown, numbers, writeBody, writeText, Content, readText}
 use Rattle.text.specs.Calls.{Reading, Writing}

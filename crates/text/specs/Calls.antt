@@ -6,9 +6,8 @@ use lib.Dec.{leb}
 use lib.ListN.{length}
 use Rattle.three.specs.Lists.{over}
 use Rattle.circuit.specs.declared.Counts.{Counts}
-use Rattle.circuit.specs.Refusal.{Test, _or_, refusal, accepted}
-use Rattle.circuit.specs.Table.{tableLength}
-use Rattle.circuit.specs.Table.{circuitTests}
+use Rattle.circuit.specs.Refusal.{Test, _or_, refusal, leftBy}
+use Rattle.circuit.specs.Table.{tableLength, circuitTests}
 use Rattle.text.specs.Outcome.{Outcome, numberOf, further, leaves}
 use Rattle.text.specs.Text.{Content, readText, writeText}
 
@@ -33,5 +32,5 @@ writeTests c table buffer = circuitTests c table ++ (leb (length (writeText c ta
 -- The contract of the writer: its number, the count of bytes written, and the buffer at exit. A refusal changes no byte; bytes beyond the text stay.
 pub record Writing (c : Counts) (table buffer : List ℕ) (number bytes : ℕ) (buffer′ : List ℕ) : Type 0 where
   pub answers : number ≡ refusal (writeTests c table buffer)
-  pub returns : bytes ≡ accepted number (length (writeText c table)) 0
-  pub fills : buffer′ ≡ accepted number (over (writeText c table) buffer) buffer
+  pub returns : bytes ≡ leftBy number (length (writeText c table)) 0
+  pub fills : buffer′ ≡ leftBy number (over (writeText c table) buffer) buffer

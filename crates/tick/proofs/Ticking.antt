@@ -14,7 +14,7 @@ use Rattle.circuit.specs.Circuit.{next, lamps}
 use Rattle.circuit.specs.Refusal.{Test, _or_, refusal, Passed}
 use Rattle.circuit.specs.Table.{ceilingTests, circuitTests}
 use Rattle.circuit.specs.RulesInCode.{Legal}
-use Rattle.tick.specs.Tick.{recordTests, resultTests, Given, tickTests, nextFields, lampFields, Ticked}
+use Rattle.tick.specs.Tick.{recordTests, tickResultTests, TickGiven, tickTests, nextFields, lampFields, Ticked}
 use Rattle.circuit.proofs.Refusals.{Numbered, stops, past, none, passes, passed-append, refuses-whole, append-past, refused-old, accepted-new}
 use Rattle.circuit.proofs.Legality.{circuit-numbered, legal-passed}
 
@@ -79,15 +79,15 @@ module _ (c : Counts) (table state switches : List ℕ) (n l : ℕ) where
       past-records ts e = past-circuit _ (append-past (recordTests c state switches) ts (passes (recordTests c state switches) (record-numbered c state switches) records-pass) e)
 
       pub next-short : n < bytesFor (c .latches) → 10 ≡ number
-      unfolding tickTests resultTests
+      unfolding tickTests tickResultTests
       next-short h = past-records _ (stops _ _ (lt-leb (bytesFor (c .latches)) n h))
 
       pub lamps-short : bytesFor (c .latches) ≤ n → l < bytesFor (c .lamps) → 10 ≡ number
-      unfolding tickTests resultTests
+      unfolding tickTests tickResultTests
       lamps-short g h = past-records _ (past _ _ (le-leb (bytesFor (c .latches)) n g) (stops _ _ (lt-leb (bytesFor (c .lamps)) l h)))
 
       pub tick-passes : bytesFor (c .latches) ≤ n → bytesFor (c .lamps) ≤ l → 0 ≡ number
-      unfolding tickTests resultTests
+      unfolding tickTests tickResultTests
       tick-passes g h = past-records _ (past _ _ (le-leb (bytesFor (c .latches)) n g) (past _ _ (le-leb (bytesFor (c .lamps)) l h) none))
 
   -- what holds where nothing is refused
@@ -99,11 +99,11 @@ module _ (c : Counts) (table state switches : List ℕ) (n l : ℕ) where
     pub lamps-fit : bytesFor (c .lamps) ≤ l
 
   tick-numbered : Numbered (tickTests c table state switches n l)
-  unfolding tickTests circuitTests ceilingTests recordTests resultTests
+  unfolding tickTests circuitTests ceilingTests recordTests tickResultTests
   tick-numbered = omega arith
 
   pub accepted-tick : 0 ≡ number → Accepted
-  unfolding tickTests resultTests
+  unfolding tickTests tickResultTests
   accepted-tick e =
       let p = passed-append (circuitTests c table) _ (passes (tickTests c table state switches n l) tick-numbered e) in
       let q = passed-append (recordTests c state switches) _ (p .1) in
@@ -118,7 +118,7 @@ module _ (c : Counts) (table state switches : List ℕ) (n l : ℕ) where
 
 -- ---- what the tick leaves
 
-module _ (g : Given) {k : ℕ} (answer : k ≡ refusal (tickTests (g .counts) (g .table) (g .state) (g .switches) (length (g .next)) (length (g .lamps)))) where
+module _ (g : TickGiven) {k : ℕ} (answer : k ≡ refusal (tickTests (g .counts) (g .table) (g .state) (g .switches) (length (g .next)) (length (g .lamps)))) where
   pub tick-refused : (k ≡ 0 → ⊥) → Ticked g k (g .next) (g .lamps)
   tick-refused h = record { answers = answer; fills-next = refused-old k _ _ h; fills-lamps = refused-old k _ _ h }
 

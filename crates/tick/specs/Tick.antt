@@ -10,7 +10,7 @@ use Rattle.three.specs.Cube.{Cube}
 use Rattle.three.specs.Record.{bytesFor, pack, unpack, sound}
 use Rattle.circuit.specs.declared.Counts.{Counts}
 use Rattle.circuit.specs.Circuit.{next, lamps}
-use Rattle.circuit.specs.Refusal.{Test, _or_, refusal, accepted}
+use Rattle.circuit.specs.Refusal.{Test, _or_, refusal, leftBy}
 use Rattle.circuit.specs.Table.{circuitOf, circuitTests}
 
 -- 10 for given records, 14
@@ -23,12 +23,12 @@ recordTests c state switches =
     ∷ []
 
 -- 10 for results, by their lengths
-unfoldable pub resultTests : Counts → ℕ → ℕ → List Test
-resultTests c next lamps = leb (bytesFor (c .latches)) next or 10 ∷ leb (bytesFor (c .lamps)) lamps or 10 ∷ []
+unfoldable pub tickResultTests : Counts → ℕ → ℕ → List Test
+tickResultTests c next lamps = leb (bytesFor (c .latches)) next or 10 ∷ leb (bytesFor (c .lamps)) lamps or 10 ∷ []
 
 -- 3, 10 for the table, 11, 10 for given records, 14, 10 for results
 unfoldable pub tickTests : Counts → List ℕ → List ℕ → List ℕ → ℕ → ℕ → List Test
-tickTests c table state switches next lamps = circuitTests c table ++ (recordTests c state switches ++ resultTests c next lamps)
+tickTests c table state switches next lamps = circuitTests c table ++ (recordTests c state switches ++ tickResultTests c next lamps)
 
 -- the next state and the lamps of the given state under the given switches
 unfoldable pub nextFields : Counts → List ℕ → List ℕ → List ℕ → Cube
@@ -38,7 +38,7 @@ unfoldable pub lampFields : Counts → List ℕ → List ℕ → List ℕ → Cu
 lampFields c table state switches = lamps ternary (circuitOf c table) (unpack (c .inputs) switches) (unpack (c .latches) state)
 
 -- What a tick is given: counts, table, the state and switch records, and the two result buffers as they are lent
-pub record Given : Type 0 where
+pub record TickGiven : Type 0 where
   pub counts : Counts
   pub table : List ℕ
   pub state : List ℕ
@@ -47,7 +47,7 @@ pub record Given : Type 0 where
   pub lamps : List ℕ
 
 -- The contract of the tick: its number, and both buffers at exit. A refusal changes no byte; bytes beyond each record stay.
-pub record Ticked (g : Given) (number : ℕ) (next lamps : List ℕ) : Type 0 where
+pub record Ticked (g : TickGiven) (number : ℕ) (next lamps : List ℕ) : Type 0 where
   pub answers : number ≡ refusal (tickTests (g .counts) (g .table) (g .state) (g .switches) (length (g .next)) (length (g .lamps)))
-  pub fills-next : next ≡ accepted number (over (pack (nextFields (g .counts) (g .table) (g .state) (g .switches))) (g .next)) (g .next)
-  pub fills-lamps : lamps ≡ accepted number (over (pack (lampFields (g .counts) (g .table) (g .state) (g .switches))) (g .lamps)) (g .lamps)
+  pub fills-next : next ≡ leftBy number (over (pack (nextFields (g .counts) (g .table) (g .state) (g .switches))) (g .next)) (g .next)
+  pub fills-lamps : lamps ≡ leftBy number (over (pack (lampFields (g .counts) (g .table) (g .state) (g .switches))) (g .lamps)) (g .lamps)

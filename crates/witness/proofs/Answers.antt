@@ -8,19 +8,19 @@ use Rattle.three.specs.Lists.{over}
 use Rattle.three.specs.Cube.{knownFields}
 use Rattle.three.specs.Record.{bytesFor}
 use Rattle.circuit.specs.declared.Counts.{Counts}
-use Rattle.circuit.specs.Refusal.{Test, _or_, refusal, accepted}
+use Rattle.circuit.specs.Refusal.{Test, _or_, refusal, leftBy}
 use Rattle.circuit.specs.Table.{circuitOf, circuitTests}
 use Rattle.circuit.proofs.Refusals.{append-past}
 use Rattle.text.proofs.Tables.{circuit-passed}
 use Rattle.cubes.specs.declared.RunAnswer.{RunAnswer}
 use Rattle.cubes.specs.Run.{run}
-use Rattle.cubes.specs.Call.{roomIn, resultTests, runTests, Given, refusedBy, circuitIn, outcomeIn, cubesIn, backIn, verdictFields, settledFields, Runs}
+use Rattle.cubes.specs.Call.{roomIn, runResultTests, runTests, RunGiven, refusedBy, circuitIn, outcomeIn, cubesIn, backIn, verdictFields, settledFields, Runs}
 use Rattle.witness.specs.Answer.{Answer, answerFrom, answerIn, Sized, zeroed}
 
 -- ---- the contract, as values
 
 -- what a run answers and leaves
-pub record Answers (g : Given) (r : RunAnswer) (cubes′ verdict′ settled′ : List ℕ) (a : Answer) : Type 0 where
+pub record Answers (g : RunGiven) (r : RunAnswer) (cubes′ verdict′ settled′ : List ℕ) (a : Answer) : Type 0 where
   pub number : r .number ≡ a .number
   pub n : r .cubes ≡ a .n
   pub j : r .back ≡ a .j
@@ -30,21 +30,21 @@ pub record Answers (g : Given) (r : RunAnswer) (cubes′ verdict′ settled′ :
   pub settled : settled′ ≡ over (a .settled) (g .settled)
 
 -- a buffer after a call with this number, as what is written over it
-written : (k : ℕ) (xs buffer : List ℕ) → accepted k (over xs buffer) buffer ≡ over (accepted k xs []) buffer
-unfolding accepted over
+written : (k : ℕ) (xs buffer : List ℕ) → leftBy k (over xs buffer) buffer ≡ over (leftBy k xs []) buffer
+unfolding leftBy over
 written zero xs buffer = refl
 written (suc k) xs buffer = refl
 
-written-after : {k number : ℕ} (xs buffer : List ℕ) {buffer′ : List ℕ} → k ≡ number → buffer′ ≡ accepted k (over xs buffer) buffer → buffer′ ≡ over (accepted number xs []) buffer
-written-after {k} xs buffer e f = f ∙ written k xs buffer ∙ ap (λ (m : ℕ). over (accepted m xs []) buffer) e
+written-after : {k number : ℕ} (xs buffer : List ℕ) {buffer′ : List ℕ} → k ≡ number → buffer′ ≡ leftBy k (over xs buffer) buffer → buffer′ ≡ over (leftBy number xs []) buffer
+written-after {k} xs buffer e f = f ∙ written k xs buffer ∙ ap (λ (m : ℕ). over (leftBy m xs []) buffer) e
 
-pub runs-answers : {g : Given} {r : RunAnswer} {cubes verdict settled : List ℕ} → Runs g r cubes verdict settled → Answers g r cubes verdict settled (answerIn g)
+pub runs-answers : {g : RunGiven} {r : RunAnswer} {cubes verdict settled : List ℕ} → Runs g r cubes verdict settled → Answers g r cubes verdict settled (answerIn g)
 unfolding answerIn answerFrom cubesIn backIn verdictFields settledFields
 runs-answers {g} runs = record {
   number = runs .answers;
   n = runs .counts;
   j = runs .goes-back;
-  s = runs .settles ∙ ap (λ (k : ℕ). accepted k (knownFields (settledFields g)) 0) (runs .answers);
+  s = runs .settles ∙ ap (λ (k : ℕ). leftBy k (knownFields (settledFields g)) 0) (runs .answers);
   cubes = written-after _ (g .cubes) refl (runs .fills-cubes);
   verdict = written-after _ (g .verdict) (runs .answers) (runs .fills-verdict);
   settled = written-after _ (g .settled) (runs .answers) (runs .fills-settled);
@@ -52,7 +52,7 @@ runs-answers {g} runs = record {
 
 -- ---- what they depend on
 
-answer-alike : (g h : Given) → refusedBy g ≡ refusedBy h → circuitIn g ≡ circuitIn h → g .w ≡ h .w → roomIn (g .counts) (g .cubes) ≡ roomIn (h .counts) (h .cubes)
+answer-alike : (g h : RunGiven) → refusedBy g ≡ refusedBy h → circuitIn g ≡ circuitIn h → g .w ≡ h .w → roomIn (g .counts) (g .cubes) ≡ roomIn (h .counts) (h .cubes)
     → answerIn g ≡ answerIn h
 unfolding answerIn outcomeIn
 answer-alike g h refused circuit w room i = answerFrom (refused i) (circuit i) (w i) (room i) (run (circuit i) (w i) (room i))
@@ -60,15 +60,15 @@ answer-alike g h refused circuit w room i = answerFrom (refused i) (circuit i) (
 -- the tests of a run behind 3, 10 for the table and 11
 abbrev restTests : Counts → ℕ → ℕ → ℕ → ℕ → List Test
 restTests c w cubes verdict settled =
-    leb w 1000 or 12 ∷ leb (bytesFor (c .latches)) cubes or 13 ∷ leb cubes 65536 or 13 ∷ resultTests c verdict settled
+    leb w 1000 or 12 ∷ leb (bytesFor (c .latches)) cubes or 13 ∷ leb cubes 65536 or 13 ∷ runResultTests c verdict settled
 
-rest-decides : (g : Given) → 0 ≡ refusal (circuitTests (g .counts) (g .table))
+rest-decides : (g : RunGiven) → 0 ≡ refusal (circuitTests (g .counts) (g .table))
     → refusedBy g ≡ refusal (restTests (g .counts) (g .w) (length (g .cubes)) (length (g .verdict)) (length (g .settled)))
 unfolding refusedBy runTests
 rest-decides g legal = sym (append-past (circuitTests (g .counts) (g .table)) _ (circuit-passed (g .counts) (g .table) legal) refl)
 
 -- the buffers' lengths
-pub answer-zeroed : (size : ℕ) (g : Given) → Sized size g → answerIn g ≡ answerIn (zeroed (g .counts) (g .table) (g .w) size)
+pub answer-zeroed : (size : ℕ) (g : RunGiven) → Sized size g → answerIn g ≡ answerIn (zeroed (g .counts) (g .table) (g .w) size)
 unfolding refusedBy circuitIn roomIn
 answer-zeroed size g sized =
     let long : length (g .cubes) ≡ length {A = ℕ} (replicate size 0) = sized .cubes ∙ sym (length-replicate size 0) in
@@ -83,6 +83,6 @@ pub answer-tables : (c : Counts) (table table′ : List ℕ) (w size : ℕ) → 
     → circuitOf c table ≡ circuitOf c table′ → answerIn (zeroed c table w size) ≡ answerIn (zeroed c table′ w size)
 unfolding circuitIn
 answer-tables c table table′ w size legal legal′ circuit =
-    let g : Given = zeroed c table w size in
-    let h : Given = zeroed c table′ w size in
+    let g : RunGiven = zeroed c table w size in
+    let h : RunGiven = zeroed c table′ w size in
     answer-alike g h (rest-decides g legal ∙ sym (rest-decides h legal′)) circuit refl refl

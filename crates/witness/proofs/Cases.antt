@@ -19,7 +19,7 @@ use Rattle.text.proofs.Answers.{read-stops, read-fits, reading-refused, reading
 use Rattle.text.proofs.RoundTrip.{Carries, read-carries}
 use Rattle.text.proofs.Determined.{reading-determined}
 use Rattle.cubes.specs.declared.RunAnswer.{RunAnswer}
-use Rattle.cubes.specs.Call.{Given}
+use Rattle.cubes.specs.Call.{RunGiven}
 use Rattle.witness.specs.Answer.{Answer, answerIn, zeroed}
 use Rattle.witness.specs.Case.{Claim, number, n, j, s, cubes, verdict, settled, Case, refuses, runs, Says, SaysAll, RefusedAs, RanAs, Meant, MeantAll, same, holds, holdAll, tableOf, refusedWith, ranAs, passes, allPass}
 use Rattle.witness.specs.Computed.{computed}
@@ -34,7 +34,7 @@ same-equal [] (y ∷ ys) e = absurd (false≢true e)
 same-equal (x ∷ xs) [] e = absurd (false≢true e)
 same-equal (x ∷ xs) (y ∷ ys) e = let p = and-parts (eqb x y) _ e in ap₂ _∷_ (eqb-true x y (p .0)) (same-equal xs ys (p .1))
 
-module _ {g : Given} {r : RunAnswer} {cubes′ verdict′ settled′ : List ℕ} {a : Answer} (answers : Answers g r cubes′ verdict′ settled′ a) where
+module _ {g : RunGiven} {r : RunAnswer} {cubes′ verdict′ settled′ : List ℕ} {a : Answer} (answers : Answers g r cubes′ verdict′ settled′ a) where
   claim-says : (x : Claim) → holds a x ≡ true → Says g r cubes′ verdict′ settled′ x
   unfolding holds
   claim-says (number x) e = answers .number ∙ eqb-true _ _ e

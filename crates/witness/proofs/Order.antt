@@ -8,13 +8,13 @@ use lib.Dec.{eqb}
 use Rattle.three.specs.Record.{pairs, bad, knownPairs, judged, leftover, sound}
 use Rattle.three.specs.Lists.{every}
 use Rattle.three.proofs.Lists.{and-parts}
-use Rattle.circuit.specs.Refusal.{accepted}
-use Rattle.tick.specs.Tick.{recordTests, resultTests, tickTests, Given as TickGiven}
+use Rattle.circuit.specs.Refusal.{leftBy}
+use Rattle.tick.specs.Tick.{recordTests, tickResultTests, TickGiven, tickTests}
 use Rattle.text.specs.Decimal.{digits, decimal}
 use Rattle.text.specs.Line.{lineText}
 use Rattle.text.specs.Text.{headNumbers, shown, numbers, writeBody, writeText}
 use Rattle.text.specs.Calls.{writeTests}
-use Rattle.cubes.specs.Call.{outcomeNumber, Given as RunGiven, refusedBy, outcomeIn}
+use Rattle.cubes.specs.Call.{outcomeNumber, RunGiven, refusedBy, outcomeIn}
 use Rattle.witness.specs.Computed.{computed}
 use Rattle.witness.specs.Order.{Row, Numbered, numbered, TickAllows, tickNumber, RunAllows, elseOutcome, runNumber, WriteGiven, WriteAllows, writeNumber, ticks, runs, writes}
 
@@ -33,7 +33,7 @@ unfolding tickNumber
 ticks-number g number allows = allows .ticked .answers
 
 ticks-computed : numbered tickNumber ticks ≡ true
-unfolding computed numbered tickNumber ticks tickTests recordTests resultTests sound every judged bad knownPairs pairs leftover
+unfolding computed numbered tickNumber ticks tickTests recordTests tickResultTests sound every judged bad knownPairs pairs leftover
 ticks-computed = refl
 
 pub tick-order : Numbered TickAllows ticks
@@ -41,8 +41,8 @@ tick-order = all-numbered tickNumber ticks-number ticks ticks-computed
 
 -- ---- run
 
-else-outcome : (g : RunGiven) (k : ℕ) → accepted k (outcomeNumber (outcomeIn g)) k ≡ elseOutcome g k
-unfolding accepted elseOutcome
+else-outcome : (g : RunGiven) (k : ℕ) → leftBy k (outcomeNumber (outcomeIn g)) k ≡ elseOutcome g k
+unfolding leftBy elseOutcome
 else-outcome g zero = refl
 else-outcome g (suc k) = refl
 

@@ -14,7 +14,7 @@ use Rattle.circuit.specs.Circuit.{signed, value, pass, settle, next, lamps}
 use Rattle.circuit.specs.Table.{circuitOf, gatesFrom}
 use Rattle.cubes.specs.declared.RunAnswer.{RunAnswer}
 use Rattle.cubes.specs.Execution.{settings, stateAfter, lampsAfter, resetBit, resets}
-use Rattle.cubes.specs.Call.{Given, circuitIn, Runs}
+use Rattle.cubes.specs.Call.{RunGiven, circuitIn, Runs}
 use Rattle.cubes.specs.Promise.{Covered, Promises}
 use Rattle.witness.specs.Answer.{Answer, answerIn, Sized, zeroed}
 use Rattle.witness.specs.Computed.{computed}
@@ -64,7 +64,7 @@ lit-after-once first t =
 -- ---- the promises
 
 -- two executions that differ, under switch settings that differ at tick t alone, and both covered
-pub record Two (g : Given) (r : RunAnswer) (cubes verdict settled : List ℕ) (t : ℕ) : Type 0 where
+pub record Two (g : RunGiven) (r : RunAnswer) (cubes verdict settled : List ℕ) (t : ℕ) : Type 0 where
   pub alike : (tick : ℕ) → (tick ≡ t → ⊥) → settings circuit (always false) tick ≡ settings circuit (once t) tick
   pub differ : stateAfter circuit (always false) (resets circuit) (suc t) ≡ stateAfter circuit (once t) (resets circuit) (suc t) → ⊥
   pub never-on : Covered g r cubes verdict settled (always false)

@@ -11,7 +11,7 @@ use Rattle.three.proofs.Pack.{unpack-over}
 use Rattle.circuit.specs.declared.Counts.{Counts}
 use Rattle.circuit.specs.Circuit.{Circuit, next, lamps}
 use Rattle.circuit.specs.Table.{circuitOf}
-use Rattle.tick.specs.Tick.{nextFields, lampFields, Given, Ticked}
+use Rattle.tick.specs.Tick.{nextFields, lampFields, TickGiven, Ticked}
 use Rattle.circuit.proofs.Refusals.{accepted-new}
 use Rattle.circuit.proofs.Sound.{next-boolean, lamps-boolean}
 
@@ -28,7 +28,7 @@ module _ (c : Counts) (table state switches : List ℕ) where
 
 -- ---- the results of an accepted tick
 
-module _ (g : Given) {number : ℕ} {next′ lamps′ : List ℕ} (ticked : Ticked g number next′ lamps′) (done : number ≡ 0)
+module _ (g : TickGiven) {number : ℕ} {next′ lamps′ : List ℕ} (ticked : Ticked g number next′ lamps′) (done : number ≡ 0)
     (state switches : List Bool) (state-known : unpack (g .counts .latches) (g .state) ≡ map known state) (switches-known : unpack (g .counts .inputs) (g .switches) ≡ map known switches) where
   abbrev circuit : Circuit
   circuit = circuitOf (g .counts) (g .table)

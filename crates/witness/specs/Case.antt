@@ -15,7 +15,7 @@ use Rattle.text.specs.Text.{Content, readText}
 use Rattle.text.specs.Calls.{zeros, Reading}
 use Rattle.text.specs.Bench.{bytes}
 use Rattle.cubes.specs.declared.RunAnswer.{RunAnswer}
-use Rattle.cubes.specs.Call.{Given, Runs}
+use Rattle.cubes.specs.Call.{RunGiven, Runs}
 use Rattle.witness.specs.Answer.{Answer, answerIn, Sized, zeroed}
 
 -- ---- what is said
@@ -33,7 +33,7 @@ pub data Case : Type 0 where
 
 -- ---- what it means
 
-module _ (g : Given) (r : RunAnswer) (cubes′ verdict′ settled′ : List ℕ) where
+module _ (g : RunGiven) (r : RunAnswer) (cubes′ verdict′ settled′ : List ℕ) where
   abbrev pub Says : Claim → Type 0
   Says (number x) = r .number ≡ x
   Says (n x) = r .cubes ≡ x
@@ -56,7 +56,7 @@ RefusedAs text m =
 -- the reader accepts, and whatever the run of what it leaves may leave is as said
 abbrev pub RanAs : List ℕ → ℕ → ℕ → List Claim → Type 0
 RanAs text w size says =
-    (table : List ℕ) → 16 ≤ length table → (number : ℕ) (g : Given) → Reading text table number (g .counts) (g .table)
+    (table : List ℕ) → 16 ≤ length table → (number : ℕ) (g : RunGiven) → Reading text table number (g .counts) (g .table)
     → g .w ≡ w → Sized size g → (r : RunAnswer) (cubes verdict settled : List ℕ) → Runs g r cubes verdict settled
     → (number ≡ 0) × SaysAll g r cubes verdict settled says
 

@@ -9,10 +9,10 @@ use lib.Dec.{eqb}
 use lib.ListN.{length, replicate}
 use Rattle.circuit.specs.declared.Counts.{Counts}
 use Rattle.circuit.specs.Refusal.{refusal}
-use Rattle.tick.specs.Tick.{tickTests, Given as TickGiven, Ticked}
+use Rattle.tick.specs.Tick.{tickTests, TickGiven, Ticked}
 use Rattle.text.specs.Calls.{writeTests, Writing}
 use Rattle.cubes.specs.declared.RunAnswer.{RunAnswer}
-use Rattle.cubes.specs.Call.{outcomeNumber, Given as RunGiven, refusedBy, outcomeIn, Runs}
+use Rattle.cubes.specs.Call.{outcomeNumber, RunGiven, refusedBy, outcomeIn, Runs}
 
 -- ---- rows
 

@@ -7,7 +7,7 @@ use lib.Dec.{eqb}
 use Rattle.circuit.specs.declared.Counts.{Counts}
 use Rattle.circuit.specs.Circuit.{Circuit}
 use Rattle.circuit.specs.Table.{circuitOf}
-use Rattle.cubes.specs.Call.{Given}
+use Rattle.cubes.specs.Call.{RunGiven}
 
 abbrev pub counts : Counts
 counts = record { inputs = 1; latches = 1; lamps = 1; gates = 1 }
@@ -19,7 +19,7 @@ abbrev pub circuit : Circuit
 circuit = circuitOf counts words
 
 -- its run at w, over these buffers
-abbrev pub given : ℕ → List ℕ → List ℕ → List ℕ → Given
+abbrev pub given : ℕ → List ℕ → List ℕ → List ℕ → RunGiven
 given w cubes verdict settled = record { counts = counts; table = words; w = w; cubes = cubes; verdict = verdict; settled = settled }
 
 -- switch settings at each tick: always the same, and on at tick t alone

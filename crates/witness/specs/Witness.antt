@@ -4,7 +4,7 @@
 use mathlib.Core.List.{List, [], _∷_}
 use Prim.Native.Nat.{ℕ}
 use Rattle.circuit.specs.declared.Counts.{Counts}
-use Rattle.cubes.specs.Call.{Given}
+use Rattle.cubes.specs.Call.{RunGiven}
 use Rattle.witness.specs.Answer.{Answer}
 
 abbrev pub counts : Counts
@@ -14,15 +14,15 @@ counts = record { inputs = 0; latches = 4; lamps = 3; gates = 0 }
 abbrev pub words : ℕ → ℕ → ℕ → List ℕ
 words a b c = 1 ∷ 0 ∷ 5 ∷ 0 ∷ 0 ∷ 0 ∷ 2 ∷ 0 ∷ a ∷ b ∷ c ∷ []
 
-abbrev given : List ℕ → List ℕ → List ℕ → List ℕ → Given
+abbrev given : List ℕ → List ℕ → List ℕ → List ℕ → RunGiven
 given table cubes verdict settled = record { counts = counts; table = table; w = 0; cubes = cubes; verdict = verdict; settled = settled }
 
 -- latch 2 as a lamp, its inverse, and latch 1
-abbrev pub witness : List ℕ → List ℕ → List ℕ → Given
+abbrev pub witness : List ℕ → List ℕ → List ℕ → RunGiven
 witness = given (words 6 7 4)
 
 -- the same with latch 1 first
-abbrev pub other : List ℕ → List ℕ → List ℕ → Given
+abbrev pub other : List ℕ → List ℕ → List ℕ → RunGiven
 other = given (words 4 6 7)
 
 -- four cubes, back to cube 2, latches 0, 2 and 3 settled; never, always, open

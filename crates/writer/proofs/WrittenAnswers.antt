@@ -11,7 +11,7 @@ use Rattle.circuit.specs.Table.{circuitTests}
 use Rattle.text.specs.Text.{writeText}
 use Rattle.text.specs.Calls.{Writing}
 use Rattle.putting.specs.PutInCode.{Put}
-use Rattle.writer.specs.WriterInCode.{Ready}
+use Rattle.writer.specs.WriterInCode.{Writable}
 use Rattle.text.proofs.Tables.{Taken, taken}
 use Rattle.text.proofs.Bound.{text-bound}
 use Rattle.text.proofs.Answers.{write-stops, write-short, write-fits, writing-refused, writing-accepted}
@@ -27,7 +27,7 @@ module _ (c : Counts) (table : List ℕ) {n : ℕ} (e : n ≡ refusal (circuitTe
   legal = sym z ∙ e
 
   -- what the passes may assume
-  pub written-ready : Ready c table 60000
+  pub written-ready : Writable c table 60000
   written-ready = let k : Taken c table = taken c table legal in record { bounded = k .bounded; long = k .long; fits = omega (arith, text-bound c table legal) }
 
   -- 10 for the text

@@ -12,7 +12,7 @@ use Rattle.text.specs.Line.{lineText}
 use Rattle.text.specs.Text.{magic, headNumbers, writeBody, writeText}
 use Rattle.text.specs.KindsInCode.{coded}
 use Rattle.putting.specs.PutInCode.{Put}
-use Rattle.writer.specs.WriterInCode.{block, Lines, Ready}
+use Rattle.writer.specs.WriterInCode.{block, Lines, Writable}
 use Rattle.putting.proofs.Putting.{put-then}
 use Rattle.text.proofs.Coding.{width-alike}
 
@@ -61,7 +61,7 @@ module _ (c : Counts) (table : List ℕ) where
       → Put e p inputLines f q → Put f q latchLines g r → Put g r lampLines h u → Put h u gateLines t v → Put d 0 (writeText c table) t v
   put-blocks first inputs latches lamps gates = rw text-blocks (put-then (put-then (put-then (put-then first inputs) latches) lamps) gates)
 
-  module _ {room : ℕ} (ready : Ready c table room) where
+  module _ {room : ℕ} (ready : Writable c table room) where
     pub lines-inputs : Lines 0 2 (c .inputs) table 0
     unfolding coded width
     lines-inputs = omega arith

@@ -46,7 +46,7 @@ pub record Lines (kind own count : ℕ) (words : List ℕ) (at : ℕ) : Type 0 w
   pub there : at + count * width (coded kind 0) ≤ length words
 
 -- a circuit whose text is to be written into so many bytes
-pub record Ready (c : Counts) (words : List ℕ) (room : ℕ) : Type 0 where
+pub record Writable (c : Counts) (words : List ℕ) (room : ℕ) : Type 0 where
   pub bounded : Bounded c
   pub long : tableLength c ≤ length words
   pub fits : length (writeText c words) ≤ room

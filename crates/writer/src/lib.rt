@@ -17,7 +17,7 @@ ghost use Rattle.text.specs.Text.{magic, headNumbers, writeText};
 ghost use Rattle.text.specs.Calls.{Writing};
 ghost use Rattle.text.specs.KindsInCode.{coded};
 ghost use Rattle.putting.specs.PutInCode.{Put};
-ghost use Rattle.writer.specs.WriterInCode.{lineNumbers, countNumbers, Small, Shows, block, Lines, Ready};
+ghost use Rattle.writer.specs.WriterInCode.{lineNumbers, countNumbers, Small, Shows, block, Lines, Writable};
 
 // "`aag` and a space"
 fn put_magic(text: &mut [u8]) -> usize
@@ -153,7 +153,7 @@ fn put_header(text: &mut [u8], counts: Counts) -> usize
 
 // "Then one line for each input, latch, lamp and gate, in that order."
 fn put_text(text: &mut [u8], counts: Counts, table: &[u16]) -> usize
-    requires { ⌜ Ready counts (now table) (length (now text)) ⌝ }
+    requires { ⌜ Writable counts (now table) (length (now text)) ⌝ }
     ensures { λ r. ⌜ Put (now (text .entry)) 0 (writeText counts (now (table .entry))) (now (text .exit)) r ⌝ }
 {
     let latch = 2 + 2 * counts.inputs;
@@ -241,7 +241,7 @@ fn header_length(counts: Counts) -> usize
 }
 
 fn text_length(counts: Counts, table: &[u16]) -> usize
-    requires { ⌜ Ready counts (now table) 60000 ⌝ }
+    requires { ⌜ Writable counts (now table) 60000 ⌝ }
     ensures { λ r. ⌜ r ≡ length (writeText counts (now (table .entry))) ⌝ }
 {
     let latch = 2 + 2 * counts.inputs;

@@ -3,7 +3,7 @@ use mathlib.Core.Path.{_≡_, refl, sym, _∙_}
 use Prim.Native.Nat.{_-_, _≤_}
 use lib.ListN.{length}
 use Rattle.pass.proofs.Settling.{fresh}
-use Rattle.stored.specs.CubesInCode.{Ready}
+use Rattle.stored.specs.CubesInCode.{SwitchesX}
 use Rattle.stored.proofs.Reaching.{fresh-ready}
 use Rattle.judge.proofs.Judging.{Judged, first-cube, few-lamps, lamps-fit, lamp-place, judged-first, judged-record, judged-length, lamps-record, lamps-length, judged-next, judged-last}
 use native.Mathlib.Omega.{arith}
@@ -11,7 +11,7 @@ use Rattle.judge.proofs.judge_lamps.Statement.{statement}
 use Rattle.judge.proofs.judge_lamps.Tie as tie
 
 abbrev Inv-loop : tie.InvT-loop
-Inv-loop counts table cubes len n verdict₀ values₀ lamps₀ k₀ verdict values lamps k = Ready counts values × Judged counts table cubes verdict₀ verdict k × (length lamps ≡ 16) × (k ≤ n)
+Inv-loop counts table cubes len n verdict₀ values₀ lamps₀ k₀ verdict values lamps k = SwitchesX counts values × Judged counts table cubes verdict₀ verdict k × (length lamps ≡ 16) × (k ≤ n)
 
 abbrev μ-loop : tie.MeasureT-loop
 μ-loop counts table cubes len n verdict₀ values₀ lamps₀ k₀ verdict values lamps k = n - k
