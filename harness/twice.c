@@ -92,53 +92,71 @@ size_t table_words(const twice *t)
 
 /* ---- the calls ---- */
 
-static void make_read(twice *t)
+static answer library_reads(const twice *t)
 {
-    chudravik_read_answer library =
+    chudravik_read_answer read =
         chudravik_read(of_library(t, TEXT), bytes_of(t, TEXT), library_table(t), table_words(t));
-    chudravik_read_answer simulator =
+    return (answer){.number = read.number, .counts = read.counts};
+}
+
+static answer simulator_reads(const twice *t)
+{
+    chudravik_read_answer read =
         simulate_read(of_simulator(t, TEXT), bytes_of(t, TEXT), simulator_table(t), table_words(t));
-    t->library = (answer){.number = library.number, .counts = library.counts};
-    t->simulator = (answer){.number = simulator.number, .counts = simulator.counts};
+    return (answer){.number = read.number, .counts = read.counts};
 }
 
-static void make_write(twice *t)
+static answer library_writes(const twice *t)
 {
-    chudravik_write_answer library =
+    chudravik_write_answer write =
         chudravik_write(t->counts, library_table(t), table_words(t), of_library(t, TEXT), bytes_of(t, TEXT));
-    chudravik_write_answer simulator =
-        simulate_write(t->counts, simulator_table(t), table_words(t), of_simulator(t, TEXT), bytes_of(t, TEXT));
-    t->library = (answer){.number = library.number, .bytes = library.bytes};
-    t->simulator = (answer){.number = simulator.number, .bytes = simulator.bytes};
+    return (answer){.number = write.number, .bytes = write.bytes};
 }
 
-static void make_tick(twice *t)
+static answer simulator_writes(const twice *t)
 {
-    uint32_t library = chudravik_tick(t->counts, library_table(t), table_words(t), of_library(t, STATE),
-                                      bytes_of(t, STATE), of_library(t, SWITCHES), bytes_of(t, SWITCHES),
-                                      of_library(t, NEXT), bytes_of(t, NEXT), of_library(t, LAMPS), bytes_of(t, LAMPS));
-    uint32_t simulator =
+    chudravik_write_answer write =
+        simulate_write(t->counts, simulator_table(t), table_words(t), of_simulator(t, TEXT), bytes_of(t, TEXT));
+    return (answer){.number = write.number, .bytes = write.bytes};
+}
+
+static answer library_ticks(const twice *t)
+{
+    uint32_t number = chudravik_tick(t->counts, library_table(t), table_words(t), of_library(t, STATE),
+                                     bytes_of(t, STATE), of_library(t, SWITCHES), bytes_of(t, SWITCHES),
+                                     of_library(t, NEXT), bytes_of(t, NEXT), of_library(t, LAMPS), bytes_of(t, LAMPS));
+    return (answer){.number = number};
+}
+
+static answer simulator_ticks(const twice *t)
+{
+    uint32_t number =
         simulate_tick(t->counts, simulator_table(t), table_words(t), of_simulator(t, STATE), bytes_of(t, STATE),
                       of_simulator(t, SWITCHES), bytes_of(t, SWITCHES), of_simulator(t, NEXT), bytes_of(t, NEXT),
                       of_simulator(t, LAMPS), bytes_of(t, LAMPS));
-    t->library = (answer){.number = library};
-    t->simulator = (answer){.number = simulator};
+    return (answer){.number = number};
 }
 
-static answer of_run(chudravik_run_answer run)
+static answer library_runs(const twice *t)
 {
+    chudravik_run_answer run =
+        chudravik_run(t->counts, library_table(t), table_words(t), t->w, of_library(t, CUBES), bytes_of(t, CUBES),
+                      of_library(t, VERDICT), bytes_of(t, VERDICT), of_library(t, SETTLED), bytes_of(t, SETTLED));
     return (answer){.number = run.number, .cubes = run.cubes, .back = run.back, .settled = run.settled};
 }
 
-static void make_run(twice *t)
+static answer simulator_runs(const twice *t)
 {
-    t->library = of_run(chudravik_run(t->counts, library_table(t), table_words(t), t->w, of_library(t, CUBES),
-                                      bytes_of(t, CUBES), of_library(t, VERDICT), bytes_of(t, VERDICT),
-                                      of_library(t, SETTLED), bytes_of(t, SETTLED)));
-    t->simulator = of_run(simulate_run(t->counts, simulator_table(t), table_words(t), t->w, of_simulator(t, CUBES),
-                                       bytes_of(t, CUBES), of_simulator(t, VERDICT), bytes_of(t, VERDICT),
-                                       of_simulator(t, SETTLED), bytes_of(t, SETTLED)));
+    chudravik_run_answer run =
+        simulate_run(t->counts, simulator_table(t), table_words(t), t->w, of_simulator(t, CUBES), bytes_of(t, CUBES),
+                     of_simulator(t, VERDICT), bytes_of(t, VERDICT), of_simulator(t, SETTLED), bytes_of(t, SETTLED));
+    return (answer){.number = run.number, .cubes = run.cubes, .back = run.back, .settled = run.settled};
 }
+
+typedef answer call_of(const twice *t);
+
+static call_of *const by_library[CALLS] = {library_reads, library_writes, library_ticks, library_runs};
+static call_of *const by_simulator[CALLS] = {simulator_reads, simulator_writes, simulator_ticks, simulator_runs};
 
 /* ---- what is compared ---- */
 
@@ -183,21 +201,36 @@ static bool same_buffer(twice *t, enum role role)
     const lent *l = &t->lent[role];
     if (l->given && !same_bytes(t, role, "was given, and the library changed it", l->before))
         return false;
-    if (!same_bytes(t, role, "is not as the simulator left it", l->simulated))
-        return false;
-    return guarded_whole(&l->library) || differs(t, "%s: a canary beyond the buffer has changed", role_names[role]);
+    return same_bytes(t, role, "is not as the simulator left it", l->simulated);
 }
 
-bool twice_make(twice *t)
+static bool same_buffers(twice *t)
 {
-    static void (*const make[CALLS])(twice *) = {make_read, make_write, make_tick, make_run};
-    make[t->call](t);
-    if (!same_answers(t))
-        return false;
     for (size_t role = 0; role < ROLES; role++)
         if (t->lent[role].used && !same_buffer(t, (enum role)role))
             return false;
     return true;
+}
+
+static bool whole_beyond(twice *t)
+{
+    for (size_t role = 0; role < ROLES; role++)
+        if (t->lent[role].used && !guarded_whole(&t->lent[role].library))
+            return differs(t, "%s: a canary beyond the buffer has changed", role_names[role]);
+    return true;
+}
+
+bool twice_make(twice *t)
+{
+    t->library = by_library[t->call](t);
+    t->simulator = by_simulator[t->call](t);
+    return same_answers(t) && same_buffers(t) && whole_beyond(t);
+}
+
+bool twice_again(twice *t)
+{
+    t->library = by_library[t->call](t);
+    return same_answers(t) && same_buffers(t);
 }
 
 /* ---- failure ---- */

@@ -67,6 +67,10 @@ void twice_lend(twice *t, enum role role, bool given, size_t bytes, enum laid la
  * what. */
 bool twice_make(twice *t);
 
+/* Makes the library's call once more, on the buffers as it left them, and compares all but the canaries: what it fills
+ * does not depend on what was there. */
+bool twice_again(twice *t);
+
 /* The buffer as the library has it; null where it was handed a null pointer. */
 uint8_t *of_library(const twice *t, enum role role);
 
