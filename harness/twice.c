@@ -189,11 +189,13 @@ static bool same_answers(twice *t)
 static bool same_bytes(twice *t, enum role role, const char *complaint, const uint8_t *due)
 {
     const lent *l = &t->lent[role];
-    for (size_t i = 0; i < l->bytes; i++)
-        if (l->library.start[i] != due[i])
-            return differs(t, "%s %s: byte %zu is %02x, not %02x", role_names[role], complaint, i,
-                           l->library.start[i], due[i]);
-    return true;
+    const uint8_t *is = l->library.start;
+    size_t i = 0;
+    if (l->bytes == 0 || memcmp(is, due, l->bytes) == 0)
+        return true;
+    while (is[i] == due[i])
+        i++;
+    return differs(t, "%s %s: byte %zu is %02x, not %02x", role_names[role], complaint, i, is[i], due[i]);
 }
 
 static bool same_buffer(twice *t, enum role role)
