@@ -4,7 +4,6 @@
  */
 #include "twice.h"
 
-#include <inttypes.h>
 #include <stdio.h>
 #include <stdlib.h>
 #include <string.h>
@@ -109,17 +108,15 @@ static void must_agree(twice *t)
     exit(1);
 }
 
-static void try_sets(enum call call)
+static void try_sets(twice *t, enum call call)
 {
-    static twice t;
     size_t made = 0, accepted = 0;
-    twice_take_memory(&t);
     for (size_t i = 0; i < SAMPLES; i++)
         for (unsigned taken_away = 1; taken_away < 1u << count_buffers(call); taken_away++, made++) {
-            twice_begin(&t, call, samples[i].counts, 1);
-            lend_buffers(&t, &samples[i], taken_away);
-            must_agree(&t);
-            accepted += t.library.number == CHUDRAVIK_ACCEPTED;
+            twice_begin(t, call, samples[i].counts, 1);
+            lend_buffers(t, &samples[i], taken_away);
+            must_agree(t);
+            accepted += t->library.number == CHUDRAVIK_ACCEPTED;
         }
     printf("%s: %zu calls with null pointers, %zu accepted\n", call_names[call], made, accepted);
     if (accepted == 0) {
@@ -130,7 +127,9 @@ static void try_sets(enum call call)
 
 int main(void)
 {
+    static twice t;
+    twice_take_memory(&t);
     for (size_t call = 0; call < CALLS; call++)
-        try_sets((enum call)call);
+        try_sets(&t, (enum call)call);
     return 0;
 }
