@@ -8,7 +8,7 @@
 #include <stdlib.h>
 #include <string.h>
 
-/* Every buffer that a call fills has this many bytes, and an odd one more than any result here needs. */
+/* Of a buffer that a call fills: a byte more than the longest result here. */
 enum { RESULT_BYTES = 33 };
 
 typedef struct {
