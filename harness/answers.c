@@ -14,8 +14,8 @@
 #include <stdlib.h>
 #include <string.h>
 
-/* What a vector or a list may take; beyond that it is answered by `too large`. */
-enum { MOST_BYTES = 66000, MOST_WORDS = 8192, MOST_LIST = 131072 };
+/* What a vector may take; beyond that it is answered by `too large`. A list that is too large has no answer. */
+enum { MOST_BYTES = 66000, MOST_WORDS = 8192, MOST_LIST = 1048576 };
 
 /* ---- a line ---- */
 
@@ -353,8 +353,8 @@ int main(void)
         return 1;
     }
     if (bytes == sizeof list) {
-        puts("too large");
-        return 0;
+        fputs("the list is too large\n", stderr);
+        return 1;
     }
     answer_list(list, bytes);
     return fflush(stdout) == 0 ? 0 : 1;

@@ -14,6 +14,7 @@
 #include <stdlib.h>
 #include <string.h>
 
+#include "chance.h"
 #include "chudravik.h"
 
 enum { EXECUTIONS = 64, RUNS = 4, HINTS = 64, MANY_TICKS = 1000000, LEAST_OF_A_KIND = 100 };
@@ -44,32 +45,7 @@ static struct {
 static struct circuit circuit;
 static struct run runs[RUNS];
 
-/* ---- chance ---- */
-
-static uint64_t chance;
-
-/* Marsaglia's xorshift; the state is never 0. */
-static uint64_t random_word(void)
-{
-    chance ^= chance << 13;
-    chance ^= chance >> 7;
-    chance ^= chance << 17;
-    return chance;
-}
-
-static void seed_chance(uint64_t seed)
-{
-    chance = 2 * seed + 1;
-    for (int i = 0; i < 64; i++)
-        random_word();
-}
-
-static size_t below(size_t bound)
-{
-    return (size_t)((random_word() >> 20) % bound);
-}
-
-static int one_in(size_t bound)
+static bool one_in(size_t bound)
 {
     return below(bound) == 0;
 }
@@ -123,7 +99,7 @@ static void move_switches(void)
 {
     static const uint64_t even = 0x1111111111111111, off = even << 1, on = even << 2, slow = even << 3;
     for (size_t i = 0; i < circuit.counts.inputs; i++) {
-        uint64_t a = random_word(), b = random_word(), c = random_word();
+        uint64_t a = draw(), b = draw(), c = draw();
         switches[i] = (a & even) | (a & b & c & off) | ((a | b | c) & on) | ((switches[i] ^ (a & b & c)) & slow);
     }
 }
@@ -348,7 +324,14 @@ static uint16_t either(uint16_t a, uint16_t b)
 
 static uint16_t just_one(uint16_t a, uint16_t b)
 {
-    return both(either(a, b), both(a, b) ^ 1);
+    uint16_t some = either(a, b);
+    return both(some, both(a, b) ^ 1);
+}
+
+static void add_any_gate(void)
+{
+    uint16_t a = any_literal();
+    both(a, any_literal());
 }
 
 static uint16_t count_is(size_t at, size_t size, size_t number)
@@ -402,7 +385,7 @@ static void draw_chain(size_t at, size_t size)
 static void draw_keepers(size_t at, size_t size)
 {
     for (size_t i = 0; i < size; i++) {
-        int high = one_in(2);
+        bool high = one_in(2);
         draft.next[at + i] = high ? either(latch(at + i), any_literal()) : both(latch(at + i), any_literal());
         draft.reset[at + i] = one_in(4) ? !high : high;
         hint(latch(at + i));
@@ -427,15 +410,15 @@ static void draw_wild(size_t at, size_t size)
 
 static void draw_pieces(size_t latches)
 {
-    static void (*const draw[])(size_t, size_t) = {draw_ring,    draw_counter, draw_chain,
-                                                   draw_keepers, draw_shift,   draw_wild};
+    static void (*const piece[])(size_t, size_t) = {draw_ring,    draw_counter, draw_chain,
+                                                    draw_keepers, draw_shift,   draw_wild};
     for (size_t at = 0; at < latches;) {
         size_t size = 1 + below(one_in(8) ? 10 : 5);
         if (size > latches - at)
             size = latches - at;
-        draw[below(sizeof draw / sizeof draw[0])](at, size);
+        piece[below(sizeof piece / sizeof piece[0])](at, size);
         for (size_t i = below(4); i > 0; i--)
-            both(any_literal(), any_literal());
+            add_any_gate();
         at += size;
     }
 }
@@ -468,7 +451,7 @@ static void draw_draft(void)
     draft.counts.gates = 0;
     draw_pieces(draft.counts.latches);
     for (size_t i = below(8 + draft.counts.latches); i > 0; i--)
-        both(any_literal(), any_literal());
+        add_any_gate();
     draft.counts.lamps = below(one_in(16) ? CHUDRAVIK_MOST_LAMPS + 1 : 12);
     for (size_t i = 0; i < draft.counts.lamps; i++)
         draft.lamp[i] = draw_lamp();
@@ -573,7 +556,7 @@ int main(int argc, char **argv)
         first_file = 3;
     else
         seed = 1;
-    seed_chance(seed);
+    throw_dice(seed, 0);
     printf("seed %" PRIu64 "\n", seed);
     for (int i = first_file; i < argc; i++)
         examine_file(argv[i], ticks / 2 / EXECUTIONS / (uint64_t)(argc - first_file));

@@ -1,5 +1,5 @@
-/* Chance for the tests: a seed and a number mean the same draws everywhere. Draws are never two in one expression whose
- * order C leaves open. */
+/* Chance for the tests: a seed and a number mean the same draws everywhere, and each thread has its own. Draws are never
+ * two in one expression whose order C leaves open. */
 #ifndef CHANCE_H
 #define CHANCE_H
 
@@ -7,7 +7,7 @@
 #include <stddef.h>
 #include <stdint.h>
 
-static uint64_t dice;
+static _Thread_local uint64_t dice;
 
 static inline uint64_t draw(void)
 {

@@ -1,5 +1,5 @@
-/* Random and damaged calls of every kind, each made twice on equal memory: to the library, in guarded buffers, and to
- * the simulator. Answers and every lent byte must be equal afterwards, given bytes and canaries as they were.
+/* Random and damaged calls of every kind, each made twice: to the library and to the simulator (twice.h). A buffer of no
+ * bytes is now and then a null pointer.
  *
  * differential CALLS [SEED [FIRST]]
  *
@@ -7,8 +7,7 @@
  */
 #define _DEFAULT_SOURCE
 #include "chance.h"
-#include "guarded.h"
-#include "simulator.h"
+#include "twice.h"
 
 #include <errno.h>
 #include <inttypes.h>
@@ -28,8 +27,7 @@ enum {
     TEXT_CEILING = 60000,
     WRITTEN_CEILING = 57122,
     CUBES_CEILING = 65536,
-    LONGEST_TEXT = 70000, /* that is made here, so that 1 is met too */
-    LONGEST_BUFFER = 70016
+    LONGEST_TEXT = 70000 /* that is made here, so that 1 is met too */
 };
 
 /* ---- chance ---- */
@@ -48,45 +46,8 @@ static size_t least_of(size_t one, size_t other)
 
 /* ---- the call in hand, and how it fails ---- */
 
-enum role { TEXT, TABLE, STATE, SWITCHES, NEXT, LAMPS, CUBES, VERDICT, SETTLED, ROLES };
-
-static const char *const role_names[ROLES] = {"text",  "table", "state",   "switches", "next",
-                                              "lamps", "cubes", "verdict", "settled"};
-
-/* One buffer in its two copies, and as it was before the call. */
-typedef struct {
-    bool used;
-    bool given; /* and so not to be changed */
-    size_t bytes;
-    guarded library;
-    uint8_t *simulated;
-    uint8_t *before;
-} lent;
-
-static lent lent_to[ROLES];
-
+static twice hand;
 static uint64_t seed, number_in_hand;
-static const char *call_in_hand;
-static chudravik_counts counts_in_hand;
-static size_t w_in_hand;
-
-static void show_buffer(const char *name, const uint8_t *bytes, size_t count)
-{
-    fprintf(stderr, "  %s: %zu bytes:", name, count);
-    for (size_t i = 0; i < count && i < 64; i++)
-        fprintf(stderr, " %02x", bytes[i]);
-    fputs(count > 64 ? " ..\n" : "\n", stderr);
-}
-
-static void show_call(void)
-{
-    fprintf(stderr, "  call %s, I %zu, L %zu, O %zu, A %zu, w %zu\n", call_in_hand, counts_in_hand.inputs,
-            counts_in_hand.latches, counts_in_hand.lamps, counts_in_hand.gates, w_in_hand);
-    for (size_t role = 0; role < ROLES; role++)
-        if (lent_to[role].used)
-            show_buffer(role_names[role], lent_to[role].before, lent_to[role].bytes);
-    fprintf(stderr, "  again: differential 1 %" PRIu64 " %" PRIu64 "\n", seed, number_in_hand);
-}
 
 static void fail(const char *form, ...)
 {
@@ -96,7 +57,8 @@ static void fail(const char *form, ...)
     vfprintf(stderr, form, rest);
     fputc('\n', stderr);
     va_end(rest);
-    show_call();
+    twice_show(&hand);
+    fprintf(stderr, "  again: differential 1 %" PRIu64 " %" PRIu64 "\n", seed, number_in_hand);
     exit(1);
 }
 
@@ -104,9 +66,9 @@ static void fail(const char *form, ...)
 static void touched(int signal_number, siginfo_t *info, void *context)
 {
     (void)context;
-    for (size_t role = 0; role < ROLES; role++)
-        if (guarded_near(&lent_to[role].library, info->si_addr))
-            fail("signal %d: memory beyond a buffer was touched: %s", signal_number, role_names[role]);
+    enum role role = twice_near(&hand, info->si_addr);
+    if (role != ROLES)
+        fail("signal %d: memory beyond a buffer was touched: %s", signal_number, role_names[role]);
     fail("signal %d, far from every buffer", signal_number);
 }
 
@@ -124,29 +86,9 @@ static void watch_signals(void)
 
 /* ---- buffers ---- */
 
-static void take_memory(void)
-{
-    for (size_t role = 0; role < ROLES; role++) {
-        lent_to[role].simulated = malloc(LONGEST_BUFFER);
-        lent_to[role].before = malloc(LONGEST_BUFFER);
-        if (lent_to[role].simulated == NULL || lent_to[role].before == NULL) {
-            fputs("differential: no memory\n", stderr);
-            exit(2);
-        }
-    }
-}
-
 static void lend(enum role role, bool given, size_t bytes)
 {
-    lent *l = &lent_to[role];
-    l->used = true;
-    l->given = given;
-    l->bytes = bytes;
-    uint8_t *laid = guarded_lay(&l->library, bytes, chance(50) ? GUARD_BEHIND : GUARD_BEFORE);
-    if (bytes == 0)
-        return;
-    memcpy(laid, l->before, bytes);
-    memcpy(l->simulated, l->before, bytes);
+    twice_lend(&hand, role, given, bytes, (enum laid)below(bytes == 0 ? LAID_WAYS : LAID_NULL));
 }
 
 static void fill_noise(uint8_t *bytes, size_t count)
@@ -162,84 +104,26 @@ static void fill_noise(uint8_t *bytes, size_t count)
 static void lend_given(enum role role, const void *content, size_t bytes)
 {
     if (bytes != 0)
-        memcpy(lent_to[role].before, content, bytes);
+        memcpy(twice_content(&hand, role), content, bytes);
     lend(role, true, bytes);
 }
 
 /* What a call fills holds noise first, so that a byte it should not have written is seen. */
 static void lend_noise(enum role role, size_t bytes)
 {
-    fill_noise(lent_to[role].before, bytes);
+    fill_noise(twice_content(&hand, role), bytes);
     lend(role, false, bytes);
-}
-
-static uint8_t *of_library(enum role role)
-{
-    return lent_to[role].library.start;
-}
-
-static uint8_t *of_simulator(enum role role)
-{
-    return lent_to[role].simulated;
 }
 
 static size_t bytes_of(enum role role)
 {
-    return lent_to[role].bytes;
+    return hand.lent[role].bytes;
 }
 
-/* Regions and malloc'ed memory start on even addresses, and a table has an even count of bytes. */
-static uint16_t *library_table(void)
+static void make_call(void)
 {
-    return (uint16_t *)(void *)of_library(TABLE);
-}
-
-static uint16_t *simulator_table(void)
-{
-    return (uint16_t *)(void *)of_simulator(TABLE);
-}
-
-static size_t table_words(void)
-{
-    return bytes_of(TABLE) / 2;
-}
-
-static void must_equal(const char *name, const char *complaint, const uint8_t *is, const uint8_t *due, size_t bytes)
-{
-    for (size_t i = 0; i < bytes; i++)
-        if (is[i] != due[i])
-            fail("%s %s: byte %zu is %02x, not %02x", name, complaint, i, is[i], due[i]);
-}
-
-static void compare_buffer(enum role role)
-{
-    const lent *l = &lent_to[role];
-    if (l->given)
-        must_equal(role_names[role], "was given, and the library changed it", l->library.start, l->before, l->bytes);
-    must_equal(role_names[role], "is not as the simulator left it", l->library.start, l->simulated, l->bytes);
-    if (!guarded_whole(&l->library))
-        fail("%s: a canary beyond the buffer has changed", role_names[role]);
-}
-
-static void compare_buffers(void)
-{
-    for (size_t role = 0; role < ROLES; role++)
-        if (lent_to[role].used)
-            compare_buffer(role);
-}
-
-static void compare_number(const char *name, size_t library, size_t simulator)
-{
-    if (library != simulator)
-        fail("%s: library %zu, simulator %zu", name, library, simulator);
-}
-
-static void compare_counts(chudravik_counts library, chudravik_counts simulator)
-{
-    compare_number("I", library.inputs, simulator.inputs);
-    compare_number("L", library.latches, simulator.latches);
-    compare_number("O", library.lamps, simulator.lamps);
-    compare_number("A", library.gates, simulator.gates);
+    if (!twice_make(&hand))
+        fail("%s", hand.difference);
 }
 
 /* ---- circuits ---- */
@@ -1076,10 +960,6 @@ static void lend_record(enum role role, size_t fields)
 
 /* ---- what was met ---- */
 
-enum call { READ, WRITE, TICK, RUN, CALLS };
-
-static const char *const call_names[CALLS] = {"read", "write", "tick", "run"};
-
 /* The numbers as they are, but 10 by what was too short. */
 enum { TEN_TABLE = 16, TEN_GIVEN, TEN_RESULT, OUTCOMES };
 
@@ -1104,7 +984,7 @@ static void note(enum call call, uint32_t number, size_t ten)
 {
     size_t outcome = number == 10 ? ten : number;
     if (number > 15 || !can_give(call, outcome))
-        fail("%s gave %" PRIu32 ", which it cannot give", call_in_hand, number);
+        fail("%s gave %" PRIu32 ", which it cannot give", call_names[call], number);
     met[call][outcome]++;
 }
 
@@ -1158,15 +1038,6 @@ static void see_size(uint32_t number, chudravik_counts counts)
 
 /* ---- the calls ---- */
 
-static void begin(enum call call, chudravik_counts counts)
-{
-    for (size_t role = 0; role < ROLES; role++)
-        lent_to[role].used = false;
-    call_in_hand = call_names[call];
-    counts_in_hand = counts;
-    w_in_hand = 0;
-}
-
 /* What a call is handed as a count may be beyond all memory; then buffers go by the circuit itself. */
 static size_t fields_for(size_t handed, size_t true_count, size_t ceiling)
 {
@@ -1179,8 +1050,9 @@ static void must_read_as(const uint8_t *written, size_t bytes, chudravik_counts 
     chudravik_read_answer again = chudravik_read(written, bytes, word, words_of(counts));
     if (again.number != 0)
         fail("what the library wrote it refuses to read, with %" PRIu32, again.number);
-    compare_counts(again.counts, counts);
-    if (memcmp(word, table, words_of(counts) * sizeof *word) != 0)
+    if (memcmp(&again.counts, &counts, sizeof counts) != 0)
+        fail("what the library wrote it reads with other counts");
+    if (words_of(counts) != 0 && memcmp(word, table, words_of(counts) * sizeof *word) != 0)
         fail("what the library wrote it reads as other words");
     see(READ_BACK, true);
 }
@@ -1198,19 +1070,15 @@ static void try_read(circuit *c)
 {
     static text t;
     make_circuit(c, 15);
-    begin(READ, c->counts);
+    twice_begin(&hand, READ, c->counts, 0);
     make_text(&t, c);
     lend_given(TEXT, t.byte, t.count);
     lend_noise(TABLE, 2 * table_length_for(c));
-    chudravik_read_answer library = chudravik_read(of_library(TEXT), t.count, library_table(), table_words());
-    chudravik_read_answer simulator = simulate_read(of_simulator(TEXT), t.count, simulator_table(), table_words());
-    compare_number("number", library.number, simulator.number);
-    compare_counts(library.counts, simulator.counts);
-    compare_buffers();
-    note(READ, library.number, TEN_TABLE);
-    see_size(library.number, library.counts);
-    if (library.number == 0)
-        must_write_and_read_alike(library.counts, library_table());
+    make_call();
+    note(READ, hand.library.number, TEN_TABLE);
+    see_size(hand.library.number, hand.library.counts);
+    if (hand.library.number == 0)
+        must_write_and_read_alike(hand.library.counts, library_table(&hand));
 }
 
 static size_t text_length_for(const circuit *c)
@@ -1225,26 +1093,20 @@ static void try_write(circuit *c)
 {
     make_circuit(c, 15);
     chudravik_counts counts = handed_counts(c);
-    begin(WRITE, counts);
+    twice_begin(&hand, WRITE, counts, 0);
     lend_table(c);
     lend_noise(TEXT, text_length_for(c));
-    chudravik_write_answer library =
-        chudravik_write(counts, library_table(), table_words(), of_library(TEXT), bytes_of(TEXT));
-    chudravik_write_answer simulator =
-        simulate_write(counts, simulator_table(), table_words(), of_simulator(TEXT), bytes_of(TEXT));
-    compare_number("number", library.number, simulator.number);
-    compare_number("bytes", library.bytes, simulator.bytes);
-    compare_buffers();
-    note(WRITE, library.number, table_words() < words_of(counts) ? TEN_TABLE : TEN_RESULT);
-    see_size(library.number, counts);
-    see(LONGEST_WRITTEN, library.bytes == WRITTEN_CEILING);
-    if (library.number == 0)
-        must_read_as(of_library(TEXT), library.bytes, counts, library_table());
+    make_call();
+    note(WRITE, hand.library.number, table_words(&hand) < words_of(counts) ? TEN_TABLE : TEN_RESULT);
+    see_size(hand.library.number, counts);
+    see(LONGEST_WRITTEN, hand.library.bytes == WRITTEN_CEILING);
+    if (hand.library.number == 0)
+        must_read_as(of_library(&hand, TEXT), hand.library.bytes, counts, library_table(&hand));
 }
 
 static size_t ten_of_tick(chudravik_counts counts)
 {
-    if (table_words() < words_of(counts))
+    if (table_words(&hand) < words_of(counts))
         return TEN_TABLE;
     bool state_short = bytes_of(STATE) < record_bytes(counts.latches);
     return state_short || bytes_of(SWITCHES) < record_bytes(counts.inputs) ? TEN_GIVEN : TEN_RESULT;
@@ -1253,8 +1115,10 @@ static size_t ten_of_tick(chudravik_counts counts)
 /* With none in the given records there is none in the results: the tick is then the Boolean one. */
 static void look_for_unknown(chudravik_counts counts)
 {
-    bool ternary = has_unknown(of_library(STATE), counts.latches) || has_unknown(of_library(SWITCHES), counts.inputs);
-    bool out = has_unknown(of_library(NEXT), counts.latches) || has_unknown(of_library(LAMPS), counts.lamps);
+    bool ternary = has_unknown(of_library(&hand, STATE), counts.latches) ||
+                   has_unknown(of_library(&hand, SWITCHES), counts.inputs);
+    bool out =
+        has_unknown(of_library(&hand, NEXT), counts.latches) || has_unknown(of_library(&hand, LAMPS), counts.lamps);
     if (out && !ternary)
         fail("a tick without X gave X");
     see(ternary ? TERNARY_TICK : BOOLEAN_TICK, true);
@@ -1267,23 +1131,16 @@ static void try_tick(circuit *c)
     size_t inputs = fields_for(counts.inputs, c->counts.inputs, INPUTS_CEILING);
     size_t latches = fields_for(counts.latches, c->counts.latches, LATCHES_CEILING);
     size_t lamps = fields_for(counts.lamps, c->counts.lamps, LAMPS_CEILING);
-    begin(TICK, counts);
+    twice_begin(&hand, TICK, counts, 0);
     lend_table(c);
     lend_record(STATE, latches);
     lend_record(SWITCHES, inputs);
     lend_noise(NEXT, length_for(record_bytes(latches)));
     lend_noise(LAMPS, length_for(record_bytes(lamps)));
-    uint32_t library =
-        chudravik_tick(counts, library_table(), table_words(), of_library(STATE), bytes_of(STATE), of_library(SWITCHES),
-                       bytes_of(SWITCHES), of_library(NEXT), bytes_of(NEXT), of_library(LAMPS), bytes_of(LAMPS));
-    uint32_t simulator = simulate_tick(counts, simulator_table(), table_words(), of_simulator(STATE), bytes_of(STATE),
-                                       of_simulator(SWITCHES), bytes_of(SWITCHES), of_simulator(NEXT), bytes_of(NEXT),
-                                       of_simulator(LAMPS), bytes_of(LAMPS));
-    compare_number("number", library, simulator);
-    compare_buffers();
-    note(TICK, library, ten_of_tick(counts));
-    see_size(library, counts);
-    if (library == 0)
+    make_call();
+    note(TICK, hand.library.number, ten_of_tick(counts));
+    see_size(hand.library.number, counts);
+    if (hand.library.number == 0)
         look_for_unknown(counts);
 }
 
@@ -1332,40 +1189,32 @@ static bool has_pair(const uint8_t *record, size_t fields, unsigned pair)
     return false;
 }
 
-static void see_run(chudravik_counts counts, size_t w, chudravik_run_answer run)
+static void see_run(chudravik_counts counts, size_t w, const answer *run)
 {
-    bool closed = run.number == 0;
+    bool closed = run->number == 0;
     size_t record = record_bytes(counts.latches);
-    see(LONG_CLOSED, closed && run.cubes >= 100);
-    see(LONG_NO_ROOM, run.number == 15 && run.cubes >= 100);
-    if (run.cubes > most_cubes)
-        most_cubes = run.cubes;
+    see(LONG_CLOSED, closed && run->cubes >= 100);
+    see(LONG_NO_ROOM, run->number == 15 && run->cubes >= 100);
+    if (run->cubes > most_cubes)
+        most_cubes = run->cubes;
     if (!closed)
         return;
-    see(CLOSED_FULL, run.cubes == bytes_of(CUBES) / record);
-    see(CLOSED_LATER, run.back > 0);
-    see(CLOSED_WIDENED, w != 0 && run.cubes > w);
-    see(SOME_SETTLED, run.settled > 0);
-    see(SOME_NEVER, has_pair(of_library(VERDICT), counts.lamps, 1));
-    see(SOME_ALWAYS, has_pair(of_library(VERDICT), counts.lamps, 2));
+    see(CLOSED_FULL, run->cubes == bytes_of(CUBES) / record);
+    see(CLOSED_LATER, run->back > 0);
+    see(CLOSED_WIDENED, w != 0 && run->cubes > w);
+    see(SOME_SETTLED, run->settled > 0);
+    see(SOME_NEVER, has_pair(of_library(&hand, VERDICT), counts.lamps, 1));
+    see(SOME_ALWAYS, has_pair(of_library(&hand, VERDICT), counts.lamps, 2));
 }
 
 /* Each widening holds a latch more, for where none differs b is a and the run is closed; and once all are held the next
  * cube is subsumed. */
-static void must_close_in_time(chudravik_counts counts, size_t w, chudravik_run_answer run)
+static void must_close_in_time(chudravik_counts counts, size_t w, const answer *run)
 {
-    if (w == 0 || (run.number != 0 && run.number != 15))
+    if (w == 0 || (run->number != 0 && run->number != 15))
         return;
-    if (run.cubes > w * counts.latches + 1 || (run.number == 15 && run.cubes == w * counts.latches + 1))
+    if (run->cubes > w * counts.latches + 1 || (run->number == 15 && run->cubes == w * counts.latches + 1))
         fail("with w %zu a run of %zu latches did not close within w x L + 1 cubes", w, counts.latches);
-}
-
-static void compare_runs(chudravik_run_answer library, chudravik_run_answer simulator)
-{
-    compare_number("number", library.number, simulator.number);
-    compare_number("n", library.cubes, simulator.cubes);
-    compare_number("j", library.back, simulator.back);
-    compare_number("s", library.settled, simulator.settled);
 }
 
 static void try_run(circuit *c)
@@ -1374,24 +1223,17 @@ static void try_run(circuit *c)
     chudravik_counts counts = handed_counts(c);
     size_t latches = fields_for(counts.latches, c->counts.latches, LATCHES_CEILING);
     size_t lamps = fields_for(counts.lamps, c->counts.lamps, LAMPS_CEILING);
-    begin(RUN, counts);
-    size_t w = w_in_hand = interval();
+    size_t w = interval();
+    twice_begin(&hand, RUN, counts, w);
     lend_table(c);
     lend_noise(CUBES, cubes_length(c, w, record_bytes(latches)));
     lend_noise(VERDICT, length_for(record_bytes(lamps)));
     lend_noise(SETTLED, length_for(record_bytes(latches)));
-    chudravik_run_answer library =
-        chudravik_run(counts, library_table(), table_words(), w, of_library(CUBES), bytes_of(CUBES),
-                      of_library(VERDICT), bytes_of(VERDICT), of_library(SETTLED), bytes_of(SETTLED));
-    chudravik_run_answer simulator =
-        simulate_run(counts, simulator_table(), table_words(), w, of_simulator(CUBES), bytes_of(CUBES),
-                     of_simulator(VERDICT), bytes_of(VERDICT), of_simulator(SETTLED), bytes_of(SETTLED));
-    compare_runs(library, simulator);
-    compare_buffers();
-    note(RUN, library.number, table_words() < words_of(counts) ? TEN_TABLE : TEN_RESULT);
-    see_size(library.number, counts);
-    see_run(counts, w, library);
-    must_close_in_time(counts, w, library);
+    make_call();
+    note(RUN, hand.library.number, table_words(&hand) < words_of(counts) ? TEN_TABLE : TEN_RESULT);
+    see_size(hand.library.number, counts);
+    see_run(counts, w, &hand.library);
+    must_close_in_time(counts, w, &hand.library);
 }
 
 static void try_call(uint64_t number)
@@ -1490,7 +1332,7 @@ int main(int argc, char **argv)
     printf("%" PRIu64 " calls, seed %" PRIu64 "\n", calls, seed);
     fflush(stdout);
     watch_signals();
-    take_memory();
+    twice_take_memory(&hand);
     for (uint64_t i = 0; i < calls; i++)
         try_call(first + i);
     print_met();

@@ -9,10 +9,7 @@
 
 static size_t page(void)
 {
-    static size_t bytes;
-    if (bytes == 0)
-        bytes = (size_t)sysconf(_SC_PAGESIZE);
-    return bytes;
+    return (size_t)sysconf(_SC_PAGESIZE);
 }
 
 /* More than one page, so that a stride past the buffer does not land in the next mapping. */

@@ -4,16 +4,19 @@
  * 0 is accepted; any other number is a refusal (below). Every call ends, for any numbers and any bytes.
  *
  * A buffer is a pointer and a length: in bytes, and for a table in 16-bit words. Nothing beyond a buffer's length is
- * read or written, and no call allocates, keeps a pointer, or touches anything else. Calls may run in parallel on
- * different buffers. A call takes at most CHUDRAVIK_MOST_STACK bytes of stack (measured, not proved).
+ * read or written, and no call allocates, keeps a pointer, or touches anything else. A buffer of length 0 may be a null
+ * pointer. A call takes at most CHUDRAVIK_MOST_STACK bytes of stack. (Null pointers and stack are tested, not proved.)
+ *
+ * Calls are safe in parallel, from any threads: they share nothing. Calls that run at the same time may be given the
+ * same buffer; one that a call fills is that call's alone while it runs.
  *
  * What a caller must not do, since C cannot be stopped from it and the proofs start from it:
- *   - hand in a null pointer, not even for a buffer of length 0 (any other address will do there);
- *   - hand in a length that is more than the memory behind the pointer, or a table that is not aligned for uint16_t;
+ *   - hand in a length that is more than the memory behind the pointer; so no null pointer with another length than 0;
+ *   - hand in a table that is not aligned for uint16_t;
  *   - lend a buffer to be filled that overlaps any other buffer of the same call;
  *   - write to a buffer from another thread while the call runs.
  *
- * The archive is for x86-64 Linux.
+ * The archive is for x86-64 Linux. Of the C library it needs memset, and nothing else.
  */
 #ifndef CHUDRAVIK_H
 #define CHUDRAVIK_H
@@ -24,6 +27,15 @@
 #ifdef __cplusplus
 extern "C" {
 #endif
+
+/* ---- version ---- */
+
+/* The first part changes when a program that was written for the header before it may no longer compile, link or be
+ * answered as it was: a call, a struct, a number, a ceiling or a rule is another. The second changes when something is
+ * added, and programs that do not use it stay as they are. The third changes when neither does: every call gives the
+ * answers that it gave. The number is 10,000 x first + 100 x second + third. */
+#define CHUDRAVIK_VERSION 10000
+#define CHUDRAVIK_VERSION_STRING "1.0.0"
 
 /* ---- ceilings ---- */
 
@@ -108,6 +120,36 @@ typedef struct {
     size_t back;    /* j: the last cube's next state lies inside cube j */
     size_t settled; /* s: how many latches are settled */
 } chudravik_run_answer;
+
+/* The archive is compiled for these sizes and places; elsewhere its answers would be read wrongly. */
+#if defined(__cplusplus) && __cplusplus >= 201103L
+#define CHUDRAVIK_IS(name, what, due) static_assert((what) == (due), "chudravik: " #name)
+#elif defined(__STDC_VERSION__) && __STDC_VERSION__ >= 201112L
+#define CHUDRAVIK_IS(name, what, due) _Static_assert((what) == (due), "chudravik: " #name)
+#else
+#define CHUDRAVIK_IS(name, what, due) typedef char chudravik_is_##name[(what) == (due) ? 1 : -1]
+#endif
+
+CHUDRAVIK_IS(size_of_size, sizeof(size_t), 8);
+CHUDRAVIK_IS(size_of_pointer, sizeof(void *), 8);
+CHUDRAVIK_IS(size_of_counts, sizeof(chudravik_counts), 32);
+CHUDRAVIK_IS(place_of_inputs, offsetof(chudravik_counts, inputs), 0);
+CHUDRAVIK_IS(place_of_latches, offsetof(chudravik_counts, latches), 8);
+CHUDRAVIK_IS(place_of_lamps, offsetof(chudravik_counts, lamps), 16);
+CHUDRAVIK_IS(place_of_gates, offsetof(chudravik_counts, gates), 24);
+CHUDRAVIK_IS(size_of_read_answer, sizeof(chudravik_read_answer), 40);
+CHUDRAVIK_IS(place_of_read_number, offsetof(chudravik_read_answer, number), 0);
+CHUDRAVIK_IS(place_of_counts, offsetof(chudravik_read_answer, counts), 8);
+CHUDRAVIK_IS(size_of_write_answer, sizeof(chudravik_write_answer), 16);
+CHUDRAVIK_IS(place_of_write_number, offsetof(chudravik_write_answer, number), 0);
+CHUDRAVIK_IS(place_of_bytes, offsetof(chudravik_write_answer, bytes), 8);
+CHUDRAVIK_IS(size_of_run_answer, sizeof(chudravik_run_answer), 32);
+CHUDRAVIK_IS(place_of_run_number, offsetof(chudravik_run_answer, number), 0);
+CHUDRAVIK_IS(place_of_cubes, offsetof(chudravik_run_answer, cubes), 8);
+CHUDRAVIK_IS(place_of_back, offsetof(chudravik_run_answer, back), 16);
+CHUDRAVIK_IS(place_of_settled, offsetof(chudravik_run_answer, settled), 24);
+
+#undef CHUDRAVIK_IS
 
 /* Reads a circuit from its text into the front of the table.
  * Refusals: 1, 2, 3, then line by line (4, 5, 6, then 7 or 8), 9, and 10 where the table is shorter than

@@ -1,0 +1,71 @@
+/* The header in a program of its own, and twice, as C99, C11 and C++17: each macro and each call is used. Exits 1 where a
+ * call does not answer as the README's circuit must, or the two forms of the version are not the same.
+ */
+#include "chudravik.h"
+
+#include "chudravik.h"
+
+#include <stdio.h>
+#include <string.h>
+
+static const char text[] = "aag 3 0 2 1 1\n2 4\n4 2 1\n6\n6 4 2\n";
+
+static uint16_t table[CHUDRAVIK_MOST_TABLE_WORDS];
+static uint8_t cubes[CHUDRAVIK_MOST_CUBE_BYTES];
+static uint8_t written[CHUDRAVIK_MOST_WRITTEN];
+static uint8_t state[CHUDRAVIK_RECORD_BYTES(CHUDRAVIK_MOST_LATCHES)];
+static uint8_t switches[CHUDRAVIK_RECORD_BYTES(CHUDRAVIK_MOST_INPUTS)];
+static uint8_t lamps[CHUDRAVIK_RECORD_BYTES(CHUDRAVIK_MOST_LAMPS)];
+static uint8_t next[CHUDRAVIK_RECORD_BYTES(CHUDRAVIK_MOST_LATCHES)];
+
+static int version_agrees(void)
+{
+    char due[16];
+    snprintf(due, sizeof due, "%d.%d.%d", CHUDRAVIK_VERSION / 10000, CHUDRAVIK_VERSION / 100 % 100,
+             CHUDRAVIK_VERSION % 100);
+    return strcmp(due, CHUDRAVIK_VERSION_STRING) == 0;
+}
+
+static int reads(chudravik_counts *counts)
+{
+    chudravik_read_answer read =
+        chudravik_read((const uint8_t *)text, sizeof text - 1, table, CHUDRAVIK_MOST_TABLE_WORDS);
+    *counts = read.counts;
+    return read.number == CHUDRAVIK_ACCEPTED && counts->inputs == 0 && counts->latches == 2 && counts->lamps == 1 &&
+           counts->gates == 1;
+}
+
+static int writes_back(chudravik_counts counts)
+{
+    size_t words = CHUDRAVIK_TABLE_WORDS(counts.latches, counts.lamps, counts.gates);
+    chudravik_write_answer write = chudravik_write(counts, table, words, written, sizeof written);
+    return write.number == CHUDRAVIK_ACCEPTED && write.bytes == sizeof text - 1 &&
+           memcmp(written, text, write.bytes) == 0;
+}
+
+static int ticks(chudravik_counts counts)
+{
+    state[0] = CHUDRAVIK_LOW << 6 | CHUDRAVIK_HIGH << 4;
+    return chudravik_tick(counts, table, CHUDRAVIK_MOST_TABLE_WORDS, state, sizeof state, switches, sizeof switches,
+                          next, sizeof next, lamps, sizeof lamps) == CHUDRAVIK_ACCEPTED &&
+           CHUDRAVIK_FIELD(next, 0) == CHUDRAVIK_HIGH && CHUDRAVIK_FIELD(next, 1) == CHUDRAVIK_LOW &&
+           CHUDRAVIK_FIELD(lamps, 0) == CHUDRAVIK_LOW;
+}
+
+static int runs(chudravik_counts counts)
+{
+    chudravik_run_answer run = chudravik_run(counts, table, CHUDRAVIK_MOST_TABLE_WORDS, CHUDRAVIK_MOST_INTERVAL, cubes,
+                                             sizeof cubes, lamps, sizeof lamps, state, sizeof state);
+    return run.number == CHUDRAVIK_ACCEPTED && run.cubes == 2 && run.back == 0 && run.settled == 0 &&
+           CHUDRAVIK_FIELD(lamps, 0) == CHUDRAVIK_LOW && CHUDRAVIK_FIELD(state, 1) == CHUDRAVIK_UNKNOWN;
+}
+
+int main(void)
+{
+    chudravik_counts counts;
+    if (!version_agrees() || !reads(&counts) || !writes_back(counts) || !ticks(counts) || !runs(counts)) {
+        fputs("header: not as it must be\n", stderr);
+        return 1;
+    }
+    return 0;
+}

@@ -1,0 +1,135 @@
+/* Null pointers with length 0: each call on several circuits, with every set of its buffers taken away and handed as
+ * null. The simulator is handed an empty buffer in their place (twice.h), and both must agree. Fails too if a call was
+ * never accepted with a null pointer: the circuits without counts need no table.
+ */
+#include "twice.h"
+
+#include <stdio.h>
+#include <stdlib.h>
+#include <string.h>
+
+/* Of a buffer that a call fills: a byte more than the longest result here. */
+enum { RESULT_BYTES = 33 };
+
+typedef struct {
+    const char *text;
+    chudravik_counts counts;
+    uint16_t table[12];
+    uint8_t state;
+    uint8_t switches;
+} sample;
+
+/* No counts; a switch behind a gate that is never lit; two latches that swap. */
+static const sample samples[] = {
+    {.text = "aag 0 0 0 0 0\n"},
+    {.text = "aag 2 1 0 1 1\n2\n4\n4 2 3\n", .counts = {1, 0, 1, 1}, .table = {4, 2, 3}, .switches = 0x80},
+    {.text = "aag 3 0 2 1 1\n2 4\n4 2 1\n6\n6 4 2\n",
+     .counts = {0, 2, 1, 1},
+     .table = {4, 0, 2, 1, 6, 4, 2},
+     .state = 0x60},
+};
+
+enum { SAMPLES = sizeof samples / sizeof samples[0] };
+
+static const enum role buffers_of[CALLS][6] = {
+    [READ] = {TEXT, TABLE, ROLES},
+    [WRITE] = {TABLE, TEXT, ROLES},
+    [TICK] = {TABLE, STATE, SWITCHES, NEXT, LAMPS, ROLES},
+    [RUN] = {TABLE, CUBES, VERDICT, SETTLED, ROLES},
+};
+
+static size_t count_buffers(enum call call)
+{
+    size_t count = 0;
+    while (buffers_of[call][count] != ROLES)
+        count++;
+    return count;
+}
+
+static bool is_given(enum call call, enum role role)
+{
+    return role == STATE || role == SWITCHES || (role == TEXT && call == READ) || (role == TABLE && call != READ);
+}
+
+static const void *given_content(const sample *s, enum role role)
+{
+    switch (role) {
+    case TEXT:
+        return s->text;
+    case TABLE:
+        return s->table;
+    case STATE:
+        return &s->state;
+    default:
+        return &s->switches;
+    }
+}
+
+static size_t given_bytes(const sample *s, enum role role)
+{
+    switch (role) {
+    case TEXT:
+        return strlen(s->text);
+    case TABLE:
+        return 2 * CHUDRAVIK_TABLE_WORDS(s->counts.latches, s->counts.lamps, s->counts.gates);
+    default:
+        return 1;
+    }
+}
+
+static void lend_whole(twice *t, const sample *s, enum role role)
+{
+    bool given = is_given(t->call, role);
+    size_t bytes = given ? given_bytes(s, role) : role == TABLE ? sizeof s->table : RESULT_BYTES;
+    if (given)
+        memcpy(twice_content(t, role), given_content(s, role), bytes);
+    else
+        memset(twice_content(t, role), 0xA5, bytes);
+    twice_lend(t, role, given, bytes, LAID_BEHIND);
+}
+
+static void lend_buffers(twice *t, const sample *s, unsigned taken_away)
+{
+    for (size_t i = 0; buffers_of[t->call][i] != ROLES; i++) {
+        enum role role = buffers_of[t->call][i];
+        if (taken_away >> i & 1)
+            twice_lend(t, role, is_given(t->call, role), 0, LAID_NULL);
+        else
+            lend_whole(t, s, role);
+    }
+}
+
+static void must_agree(twice *t)
+{
+    if (twice_make(t))
+        return;
+    fprintf(stderr, "nulls: %s\n", t->difference);
+    twice_show(t);
+    exit(1);
+}
+
+static void try_sets(twice *t, enum call call)
+{
+    size_t made = 0, accepted = 0;
+    for (size_t i = 0; i < SAMPLES; i++)
+        for (unsigned taken_away = 1; taken_away < 1u << count_buffers(call); taken_away++, made++) {
+            twice_begin(t, call, samples[i].counts, 1);
+            lend_buffers(t, &samples[i], taken_away);
+            must_agree(t);
+            accepted += t->library.number == CHUDRAVIK_ACCEPTED;
+        }
+    printf("%s: %zu calls with null pointers, %zu accepted\n", call_names[call], made, accepted);
+    if (accepted == 0) {
+        fprintf(stderr, "nulls: %s was never accepted\n", call_names[call]);
+        exit(1);
+    }
+}
+
+int main(void)
+{
+    static twice t;
+    twice_take_memory(&t);
+    for (size_t call = 0; call < CALLS; call++)
+        try_sets(&t, (enum call)call);
+    return 0;
+}

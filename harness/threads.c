@@ -1,0 +1,129 @@
+/* Calls from several threads at once: threads CALLS SEED CORPUS
+ *
+ * Each thread makes so many calls in memory of its own, each a string of the corpus as it is or with some bytes changed
+ * by chance, to the library and to the simulator (encoded.h), and each again and again, so that the library is nearly
+ * always in several of them. In between all run one circuit, whose table they share, in memory that cannot be written
+ * to. Fails where anything differs, or where a call was never accepted.
+ */
+#include "chance.h"
+#include "corpus.h"
+#include "encoded.h"
+
+#include <pthread.h>
+#include <stdio.h>
+#include <stdlib.h>
+#include <string.h>
+
+enum { THREADS = 8, TIMES = 64, SHARED_EVERY = 16 };
+
+static corpus all;
+static size_t calls_each;
+static uint64_t seed;
+
+typedef struct {
+    pthread_t thread;
+    uint64_t number;
+    size_t accepted[CALLS];
+    twice t;
+    uint8_t string[CORPUS_LONGEST];
+} worker;
+
+static void fail(worker *w, const char *what)
+{
+    fprintf(stderr, "threads: thread %u: %s\n", (unsigned)w->number, what);
+    twice_show(&w->t);
+    exit(1);
+}
+
+static size_t take_string(worker *w)
+{
+    const corpus_string *found = &all.at[below(all.count)];
+    if (found->bytes == 0)
+        return 0;
+    memcpy(w->string, found->string, found->bytes);
+    for (size_t changes = chance(50) ? between(1, 3) : 0; changes > 0; changes--) {
+        size_t place = below(found->bytes);
+        w->string[place] = (uint8_t)(chance(50) ? below(256) : w->string[place] + between(0, 2) - 1);
+    }
+    return found->bytes;
+}
+
+/* Two latches that swap, and a lamp that is lit when both are 1. Constant, so that writing to it would be seen. */
+static const chudravik_counts shared_counts = {0, 2, 1, 1};
+static const uint16_t shared_table[] = {4, 0, 2, 1, 6, 4, 2};
+
+static void run_shared(worker *w)
+{
+    uint8_t cubes[2], verdict, settled;
+    chudravik_run_answer run =
+        chudravik_run(shared_counts, shared_table, sizeof shared_table / sizeof shared_table[0], 0, cubes, sizeof cubes,
+                      &verdict, 1, &settled, 1);
+    if (run.number != CHUDRAVIK_ACCEPTED || run.cubes != 2 || run.back != 0 || run.settled != 0 || cubes[0] != 0x60 ||
+        cubes[1] != 0x90 || verdict != 0x40 || settled != 0)
+        fail(w, "the shared circuit did not run as it must");
+}
+
+static void *work(void *given)
+{
+    worker *w = given;
+    throw_dice(seed, w->number);
+    for (size_t i = 0; i < calls_each; i++) {
+        size_t bytes = take_string(w);
+        bool same = encoded_make(&w->t, w->string, bytes);
+        for (size_t time = 1; time < TIMES && same; time++)
+            same = twice_again(&w->t);
+        if (!same)
+            fail(w, w->t.difference);
+        w->accepted[w->t.call] += w->t.library.number == CHUDRAVIK_ACCEPTED;
+        if (i % SHARED_EVERY == 0)
+            run_shared(w);
+    }
+    return NULL;
+}
+
+static void must(int answer)
+{
+    if (answer != 0) {
+        fprintf(stderr, "threads: a thread cannot be started or joined: %s\n", strerror(answer));
+        exit(2);
+    }
+}
+
+static size_t sum_accepted(const worker *workers, size_t call)
+{
+    size_t sum = 0;
+    for (size_t i = 0; i < THREADS; i++)
+        sum += workers[i].accepted[call];
+    return sum;
+}
+
+int main(int argc, char **argv)
+{
+    static worker workers[THREADS];
+    if (argc != 4) {
+        fputs("usage: threads CALLS SEED CORPUS\n", stderr);
+        return 2;
+    }
+    calls_each = strtoul(argv[1], NULL, 10);
+    seed = strtoull(argv[2], NULL, 10);
+    corpus_load(&all, argv[3]);
+    for (size_t i = 0; i < THREADS; i++) {
+        workers[i].number = i;
+        twice_take_memory(&workers[i].t);
+    }
+    for (size_t i = 0; i < THREADS; i++)
+        must(pthread_create(&workers[i].thread, NULL, work, &workers[i]));
+    for (size_t i = 0; i < THREADS; i++)
+        must(pthread_join(workers[i].thread, NULL));
+    printf("%d threads, %zu calls each, %d times, seed %llu; accepted:", THREADS, calls_each, TIMES,
+           (unsigned long long)seed);
+    for (size_t call = 0; call < CALLS; call++)
+        printf(" %s %zu", call_names[call], sum_accepted(workers, call));
+    putchar('\n');
+    for (size_t call = 0; call < CALLS; call++)
+        if (sum_accepted(workers, call) == 0) {
+            fprintf(stderr, "threads: %s was never accepted\n", call_names[call]);
+            return 1;
+        }
+    return 0;
+}

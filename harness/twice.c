@@ -1,0 +1,263 @@
+/* See twice.h. */
+#include "twice.h"
+
+#include <stdarg.h>
+#include <stdio.h>
+#include <stdlib.h>
+#include <string.h>
+
+const char *const call_names[CALLS] = {"read", "write", "tick", "run"};
+const char *const role_names[ROLES] = {"text",  "table", "state",   "switches", "next",
+                                       "lamps", "cubes", "verdict", "settled"};
+
+/* ---- buffers ---- */
+
+static uint8_t *longest_buffer(void)
+{
+    uint8_t *memory = malloc(LONGEST_BUFFER);
+    if (memory == NULL) {
+        fputs("twice: no memory\n", stderr);
+        exit(2);
+    }
+    return memory;
+}
+
+void twice_take_memory(twice *t)
+{
+    memset(t, 0, sizeof *t);
+    for (size_t role = 0; role < ROLES; role++) {
+        t->lent[role].simulated = longest_buffer();
+        t->lent[role].before = longest_buffer();
+    }
+}
+
+void twice_begin(twice *t, enum call call, chudravik_counts counts, size_t w)
+{
+    for (size_t role = 0; role < ROLES; role++)
+        t->lent[role].used = false;
+    t->call = call;
+    t->counts = counts;
+    t->w = w;
+}
+
+uint8_t *twice_content(twice *t, enum role role)
+{
+    return t->lent[role].before;
+}
+
+void twice_lend(twice *t, enum role role, bool given, size_t bytes, enum laid laid)
+{
+    lent *l = &t->lent[role];
+    l->used = true;
+    l->given = given;
+    l->null = laid == LAID_NULL && bytes == 0;
+    l->bytes = bytes;
+    uint8_t *library = guarded_lay(&l->library, bytes, laid == LAID_BEFORE ? GUARD_BEFORE : GUARD_BEHIND);
+    if (bytes == 0)
+        return;
+    memcpy(library, l->before, bytes);
+    memcpy(l->simulated, l->before, bytes);
+}
+
+uint8_t *of_library(const twice *t, enum role role)
+{
+    return t->lent[role].null ? NULL : t->lent[role].library.start;
+}
+
+static uint8_t *of_simulator(const twice *t, enum role role)
+{
+    return t->lent[role].simulated;
+}
+
+static size_t bytes_of(const twice *t, enum role role)
+{
+    return t->lent[role].bytes;
+}
+
+/* Regions and malloc'ed memory start on even addresses, and a table has an even count of bytes. */
+uint16_t *library_table(const twice *t)
+{
+    return (uint16_t *)(void *)of_library(t, TABLE);
+}
+
+static uint16_t *simulator_table(const twice *t)
+{
+    return (uint16_t *)(void *)of_simulator(t, TABLE);
+}
+
+size_t table_words(const twice *t)
+{
+    return bytes_of(t, TABLE) / 2;
+}
+
+/* ---- the calls ---- */
+
+static answer library_reads(const twice *t)
+{
+    chudravik_read_answer read =
+        chudravik_read(of_library(t, TEXT), bytes_of(t, TEXT), library_table(t), table_words(t));
+    return (answer){.number = read.number, .counts = read.counts};
+}
+
+static answer simulator_reads(const twice *t)
+{
+    chudravik_read_answer read =
+        simulate_read(of_simulator(t, TEXT), bytes_of(t, TEXT), simulator_table(t), table_words(t));
+    return (answer){.number = read.number, .counts = read.counts};
+}
+
+static answer library_writes(const twice *t)
+{
+    chudravik_write_answer write =
+        chudravik_write(t->counts, library_table(t), table_words(t), of_library(t, TEXT), bytes_of(t, TEXT));
+    return (answer){.number = write.number, .bytes = write.bytes};
+}
+
+static answer simulator_writes(const twice *t)
+{
+    chudravik_write_answer write =
+        simulate_write(t->counts, simulator_table(t), table_words(t), of_simulator(t, TEXT), bytes_of(t, TEXT));
+    return (answer){.number = write.number, .bytes = write.bytes};
+}
+
+static answer library_ticks(const twice *t)
+{
+    uint32_t number = chudravik_tick(t->counts, library_table(t), table_words(t), of_library(t, STATE),
+                                     bytes_of(t, STATE), of_library(t, SWITCHES), bytes_of(t, SWITCHES),
+                                     of_library(t, NEXT), bytes_of(t, NEXT), of_library(t, LAMPS), bytes_of(t, LAMPS));
+    return (answer){.number = number};
+}
+
+static answer simulator_ticks(const twice *t)
+{
+    uint32_t number =
+        simulate_tick(t->counts, simulator_table(t), table_words(t), of_simulator(t, STATE), bytes_of(t, STATE),
+                      of_simulator(t, SWITCHES), bytes_of(t, SWITCHES), of_simulator(t, NEXT), bytes_of(t, NEXT),
+                      of_simulator(t, LAMPS), bytes_of(t, LAMPS));
+    return (answer){.number = number};
+}
+
+static answer library_runs(const twice *t)
+{
+    chudravik_run_answer run =
+        chudravik_run(t->counts, library_table(t), table_words(t), t->w, of_library(t, CUBES), bytes_of(t, CUBES),
+                      of_library(t, VERDICT), bytes_of(t, VERDICT), of_library(t, SETTLED), bytes_of(t, SETTLED));
+    return (answer){.number = run.number, .cubes = run.cubes, .back = run.back, .settled = run.settled};
+}
+
+static answer simulator_runs(const twice *t)
+{
+    chudravik_run_answer run =
+        simulate_run(t->counts, simulator_table(t), table_words(t), t->w, of_simulator(t, CUBES), bytes_of(t, CUBES),
+                     of_simulator(t, VERDICT), bytes_of(t, VERDICT), of_simulator(t, SETTLED), bytes_of(t, SETTLED));
+    return (answer){.number = run.number, .cubes = run.cubes, .back = run.back, .settled = run.settled};
+}
+
+typedef answer call_of(const twice *t);
+
+static call_of *const by_library[CALLS] = {library_reads, library_writes, library_ticks, library_runs};
+static call_of *const by_simulator[CALLS] = {simulator_reads, simulator_writes, simulator_ticks, simulator_runs};
+
+/* ---- what is compared ---- */
+
+static bool differs(twice *t, const char *form, ...)
+{
+    va_list rest;
+    va_start(rest, form);
+    vsnprintf(t->difference, sizeof t->difference, form, rest);
+    va_end(rest);
+    return false;
+}
+
+static bool same_number(twice *t, const char *name, size_t library, size_t simulator)
+{
+    return library == simulator || differs(t, "%s: library %zu, simulator %zu", name, library, simulator);
+}
+
+static bool same_answers(twice *t)
+{
+    const answer *l = &t->library, *s = &t->simulator;
+    return same_number(t, "number", l->number, s->number) &&
+           same_number(t, "I", l->counts.inputs, s->counts.inputs) &&
+           same_number(t, "L", l->counts.latches, s->counts.latches) &&
+           same_number(t, "O", l->counts.lamps, s->counts.lamps) &&
+           same_number(t, "A", l->counts.gates, s->counts.gates) && same_number(t, "bytes", l->bytes, s->bytes) &&
+           same_number(t, "n", l->cubes, s->cubes) && same_number(t, "j", l->back, s->back) &&
+           same_number(t, "s", l->settled, s->settled);
+}
+
+static bool same_bytes(twice *t, enum role role, const char *complaint, const uint8_t *due)
+{
+    const lent *l = &t->lent[role];
+    const uint8_t *is = l->library.start;
+    size_t i = 0;
+    if (l->bytes == 0 || memcmp(is, due, l->bytes) == 0)
+        return true;
+    while (is[i] == due[i])
+        i++;
+    return differs(t, "%s %s: byte %zu is %02x, not %02x", role_names[role], complaint, i, is[i], due[i]);
+}
+
+static bool same_buffer(twice *t, enum role role)
+{
+    const lent *l = &t->lent[role];
+    if (l->given && !same_bytes(t, role, "was given, and the library changed it", l->before))
+        return false;
+    return same_bytes(t, role, "is not as the simulator left it", l->simulated);
+}
+
+static bool same_buffers(twice *t)
+{
+    for (size_t role = 0; role < ROLES; role++)
+        if (t->lent[role].used && !same_buffer(t, (enum role)role))
+            return false;
+    return true;
+}
+
+static bool whole_beyond(twice *t)
+{
+    for (size_t role = 0; role < ROLES; role++)
+        if (t->lent[role].used && !guarded_whole(&t->lent[role].library))
+            return differs(t, "%s: a canary beyond the buffer has changed", role_names[role]);
+    return true;
+}
+
+bool twice_make(twice *t)
+{
+    t->library = by_library[t->call](t);
+    t->simulator = by_simulator[t->call](t);
+    return same_answers(t) && same_buffers(t) && whole_beyond(t);
+}
+
+bool twice_again(twice *t)
+{
+    t->library = by_library[t->call](t);
+    return same_answers(t) && same_buffers(t);
+}
+
+/* ---- failure ---- */
+
+static void show_buffer(const char *name, const lent *l)
+{
+    fprintf(stderr, "  %s%s: %zu bytes:", name, l->null ? " (null)" : "", l->bytes);
+    for (size_t i = 0; i < l->bytes && i < 64; i++)
+        fprintf(stderr, " %02x", l->before[i]);
+    fputs(l->bytes > 64 ? " ..\n" : "\n", stderr);
+}
+
+void twice_show(const twice *t)
+{
+    fprintf(stderr, "  call %s, I %zu, L %zu, O %zu, A %zu, w %zu\n", call_names[t->call], t->counts.inputs,
+            t->counts.latches, t->counts.lamps, t->counts.gates, t->w);
+    for (size_t role = 0; role < ROLES; role++)
+        if (t->lent[role].used)
+            show_buffer(role_names[role], &t->lent[role]);
+}
+
+enum role twice_near(const twice *t, const void *address)
+{
+    for (size_t role = 0; role < ROLES; role++)
+        if (guarded_near(&t->lent[role].library, address))
+            return (enum role)role;
+    return ROLES;
+}
