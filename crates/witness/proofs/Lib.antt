@@ -4,3 +4,5 @@ pub mod WrongVersions
 pub mod Order
 pub mod TickBoolean
 pub mod Switching
+pub mod Refused
+pub mod LampsBefore

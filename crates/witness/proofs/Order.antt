@@ -16,10 +16,10 @@ use Rattle.text.specs.Text.{headNumbers, shown, numbers, writeBody, writeText}
 use Rattle.text.specs.Calls.{writeTests}
 use Rattle.cubes.specs.Call.{outcomeNumber, RunGiven, refusedBy, outcomeIn}
 use Rattle.witness.specs.Computed.{computed}
-use Rattle.witness.specs.Order.{Row, Numbered, numbered, TickAllows, tickNumber, RunAllows, elseOutcome, runNumber, WriteGiven, WriteAllows, writeNumber, ticks, runs, writes}
+use Rattle.witness.specs.Order.{Row, AsNumbered, numbered, TickAllows, tickNumber, RunAllows, elseOutcome, runNumber, WriteGiven, WriteAllows, writeNumber, ticks, runs, writes}
 
 all-numbered : {G : Type 0} {Allows : G → ℕ → Type 0} (f : G → ℕ) → ((call : G) (number : ℕ) → Allows call number → number ≡ f call)
-    → (rows : List (Row G)) → numbered f rows ≡ true → Numbered Allows rows
+    → (rows : List (Row G)) → numbered f rows ≡ true → AsNumbered Allows rows
 unfolding numbered
 all-numbered f is [] e = tt
 all-numbered f is (x ∷ xs) e =
@@ -36,7 +36,7 @@ ticks-computed : numbered tickNumber ticks ≡ true
 unfolding computed numbered tickNumber ticks tickTests recordTests tickResultTests sound every judged bad knownPairs pairs leftover
 ticks-computed = refl
 
-pub tick-order : Numbered TickAllows ticks
+pub tick-order : AsNumbered TickAllows ticks
 tick-order = all-numbered tickNumber ticks-number ticks ticks-computed
 
 -- ---- run
@@ -54,7 +54,7 @@ runs-computed : numbered runNumber runs ≡ true
 unfolding computed numbered runNumber elseOutcome runs
 runs-computed = refl
 
-pub run-order : Numbered RunAllows runs
+pub run-order : AsNumbered RunAllows runs
 run-order = all-numbered runNumber runs-number runs runs-computed
 
 -- ---- writer
@@ -67,5 +67,5 @@ writes-computed : numbered writeNumber writes ≡ true
 unfolding computed numbered writeNumber writes writeTests writeText headNumbers lineText decimal digits writeBody numbers shown
 writes-computed = refl
 
-pub write-order : Numbered WriteAllows writes
+pub write-order : AsNumbered WriteAllows writes
 write-order = all-numbered writeNumber writes-number writes writes-computed

@@ -26,9 +26,9 @@ abbrev pub _gives_ : {G : Type 0} → G → ℕ → Row G
 call gives number = record { call = call; number = number }
 
 -- whatever number the contract allows for the call of a row is the row's
-abbrev pub Numbered : {G : Type 0} → (G → ℕ → Type 0) → List (Row G) → Type 0
-Numbered Allows [] = Unit {0}
-Numbered Allows (x ∷ xs) = ((number : ℕ) → Allows (x .call) number → number ≡ x .number) × Numbered Allows xs
+abbrev pub AsNumbered : {G : Type 0} → (G → ℕ → Type 0) → List (Row G) → Type 0
+AsNumbered Allows [] = Unit {0}
+AsNumbered Allows (x ∷ xs) = ((number : ℕ) → Allows (x .call) number → number ≡ x .number) × AsNumbered Allows xs
 
 -- the same by a function that computes the number
 unfoldable pub numbered : {G : Type 0} → (G → ℕ) → List (Row G) → Bool

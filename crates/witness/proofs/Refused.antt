@@ -1,0 +1,54 @@
+-- What a refusal leaves, from the contracts alone: zeros beside the number, and every lent buffer as it was; after 15 the cubes and n. Assumes nothing.
+use mathlib.Core.Path.{_≡_, sym, _∙_}
+use mathlib.Core.List.{List}
+use Prim.Native.Nat.{ℕ}
+use Rattle.circuit.specs.declared.Counts.{Counts}
+use Rattle.circuit.proofs.Refusals.{refused-old}
+use Rattle.tick.specs.Tick.{TickGiven, Ticked}
+use Rattle.text.specs.Calls.{Reading, Writing, readInto, zeros}
+use Rattle.text.specs.Outcome.{Outcome, accepted, refused, numberOf, leaves}
+use Rattle.cubes.specs.declared.RunAnswer.{RunAnswer}
+use Rattle.cubes.specs.Call.{RunGiven, refusedBy, Runs}
+
+-- ---- the reader
+
+outcome-refused : {A B : Type 0} (f : A → B) (b : B) (o : Outcome A) → (numberOf o ≡ 0 → ⊥) → leaves f b o ≡ b
+unfolding numberOf leaves
+outcome-refused f b (accepted a) h = absurd (h mathlib.Core.Path.refl)
+outcome-refused f b (refused n) h = mathlib.Core.Path.refl
+
+pub read-leaves : {text table : List ℕ} {number : ℕ} {counts : Counts} {table′ : List ℕ} → Reading text table number counts table′
+    → (number ≡ 0 → ⊥) → (counts ≡ zeros) × (table′ ≡ table)
+read-leaves {text} {table} r h =
+    let no : (numberOf (readInto text table) ≡ 0 → ⊥) = λ z. h (r .answers ∙ z) in
+    (r .returns ∙ outcome-refused _ _ (readInto text table) no, r .fills ∙ outcome-refused _ _ (readInto text table) no)
+
+-- ---- the writer
+
+pub write-leaves : {c : Counts} {table buffer : List ℕ} {number bytes : ℕ} {buffer′ : List ℕ} → Writing c table buffer number bytes buffer′
+    → (number ≡ 0 → ⊥) → (bytes ≡ 0) × (buffer′ ≡ buffer)
+write-leaves {c} {table} {buffer} {number} w h = (w .returns ∙ sym (refused-old number _ _ h), w .fills ∙ sym (refused-old number _ _ h))
+
+-- ---- the tick
+
+pub tick-leaves : {g : TickGiven} {number : ℕ} {next lamps : List ℕ} → Ticked g number next lamps → (number ≡ 0 → ⊥) → (next ≡ g .next) × (lamps ≡ g .lamps)
+tick-leaves {g} {number} t h = (t .fills-next ∙ sym (refused-old number _ _ h), t .fills-lamps ∙ sym (refused-old number _ _ h))
+
+-- ---- the run
+
+module _ {g : RunGiven} {r : RunAnswer} {cubes verdict settled : List ℕ} (runs : Runs g r cubes verdict settled) where
+  -- no verdict and no settled record after any refusal, 15 among them
+  pub run-leaves-results : (r .number ≡ 0 → ⊥) → (r .settled ≡ 0) × (verdict ≡ g .verdict) × (settled ≡ g .settled)
+  run-leaves-results h = (
+    runs .settles ∙ sym (refused-old (r .number) _ _ h),
+    runs .fills-verdict ∙ sym (refused-old (r .number) _ _ h),
+    runs .fills-settled ∙ sym (refused-old (r .number) _ _ h),
+  )
+
+  -- and before 15 no cube either
+  pub run-leaves-cubes : (refusedBy g ≡ 0 → ⊥) → (r .cubes ≡ 0) × (r .back ≡ 0) × (cubes ≡ g .cubes)
+  run-leaves-cubes h = (
+    runs .counts ∙ sym (refused-old (refusedBy g) _ _ h),
+    runs .goes-back ∙ sym (refused-old (refusedBy g) _ _ h),
+    runs .fills-cubes ∙ sym (refused-old (refusedBy g) _ _ h),
+  )
