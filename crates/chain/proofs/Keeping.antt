@@ -9,7 +9,8 @@ use lib.Bits.{bitOr, bitXor, and-le-r}
 use lib.Dec.{eqb}
 use lib.ListN.{length, getD, set, drop}
 use lib.Seq.{paste, getD-drop}
-use Rattle.three.proofs.Lists.{Stored, stored-next, getD-paste, length-tabulate, getD-tabulate}
+use Rattle.three.proofs.Loops.{Stored, stored-next, getD-paste}
+use Rattle.three.proofs.Lists.{length-tabulate, getD-tabulate}
 use Rattle.cubes.specs.Run.{due}
 use Rattle.chain.specs.ChainInCode.{differingByte, widenedBytes, heldAfter}
 

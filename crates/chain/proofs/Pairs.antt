@@ -12,9 +12,9 @@ use Rattle.three.specs.Lists.{tabulate, adjust}
 use Rattle.three.specs.Value.{Three, unknown, low, high, code}
 use Rattle.three.specs.Cube.{Cube, alike, blank}
 use Rattle.three.specs.Record.{byteOf, byteAt}
-use Rattle.three.proofs.Pack.{code-small}
+use Rattle.three.proofs.Bytes.{code-small}
 use Rattle.three.proofs.Table.{same-answers}
-use Rattle.three.proofs.Merge.{of-two}
+use Rattle.three.proofs.Fields.{of-two}
 use Rattle.cubes.specs.Run.{hold, differing}
 use Rattle.chain.specs.ChainInCode.{heldPair, heldByte, differingByte}
 use Rattle.stored.specs.CubesInCode.{keptByte}

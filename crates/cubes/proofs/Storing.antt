@@ -9,7 +9,8 @@ use lib.Seq.{paste, take-at, drop-at, drop-drop, take-all, getD-take, getD-drop}
 use Rattle.three.specs.Lists.{tabulate, over}
 use Rattle.three.specs.Cube.{Cube}
 use Rattle.three.specs.Record.{bytesFor, pack, unpack, sound, IsRecord}
-use Rattle.three.proofs.Pack.{length-pack, unpack-pack, unpack-take, sound-pack, sound-take}
+use Rattle.three.proofs.Pack.{length-pack, unpack-pack, unpack-take}
+use Rattle.three.proofs.Soundness.{sound-pack, sound-take}
 
 -- ---- the records of cubes 0 to n − 1
 

@@ -9,7 +9,8 @@ use lib.Seq.{paste, getD-drop}
 use Rattle.three.specs.Lists.{over}
 use Rattle.three.specs.Cube.{Cube, merged, knownFields}
 use Rattle.three.specs.Record.{bytesFor, pack, unpack, IsRecord}
-use Rattle.three.proofs.Pack.{length-pack, length-unpack, unpack-over, record-over, pack-unpack}
+use Rattle.three.proofs.Pack.{length-pack, length-unpack, unpack-over}
+use Rattle.three.proofs.Soundness.{record-over, pack-unpack}
 use Rattle.circuit.specs.declared.Counts.{Counts}
 use Rattle.circuit.specs.Circuit.{Circuit, lamps}
 use Rattle.circuit.specs.Table.{circuitOf}
@@ -20,7 +21,7 @@ use Rattle.cubes.proofs.Wider.{merge-sized}
 use Rattle.stored.proofs.Reaching.{part-tail}
 use Rattle.cubes.proofs.Merging.{over-over, length-over, Merged, merged-first, merged-record, merged-length, merged-next, merged-last}
 use Rattle.cubes.proofs.Buffered.{lamps-counted}
-use Rattle.three.proofs.Lists.{Stored, stored-next}
+use Rattle.three.proofs.Loops.{Stored, stored-next}
 
 -- ---- where a cube stands
 

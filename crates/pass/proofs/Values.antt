@@ -8,9 +8,12 @@ use lib.ListN.{length, getD, set, take, length-set, length-map, List·getD-map}
 use lib.Seq.{getD-take}
 use Rattle.three.specs.Record.{pairAt, unpack, IsRecord}
 use Rattle.three.specs.Value.{Three, unknown, low, code, decode, ternary}
-use Rattle.three.proofs.Lists.{Stored, stored-next, length-tabulate, getD-tabulate, getD-beyond}
+use Rattle.three.proofs.Loops.{Stored, stored-next}
+use Rattle.three.proofs.Lists.{length-tabulate, getD-tabulate, getD-beyond}
 use Rattle.three.proofs.Table.{entry-of-row}
-use Rattle.three.proofs.Pack.{code-small, code-decode, decode-code, length-unpack, sound-pair}
+use Rattle.three.proofs.Bytes.{code-small, code-decode, decode-code}
+use Rattle.three.proofs.Pack.{length-unpack}
+use Rattle.three.proofs.Soundness.{sound-pair}
 use Rattle.circuit.specs.Circuit.{signed, value}
 use Rattle.pass.specs.ValuesInCode.{valuesOf, Working, Holding, signTable, literalValues}
 

@@ -5,7 +5,7 @@ use Prim.Native.Nat.{ℕ, zero, suc, _+_, _≤_, _<_, _^_}
 use native.Mathlib.Omega.{arith}
 use lib.ListN.{length}
 use lib.Seq.{sets-eq, take-length}
-use Rattle.three.proofs.Lists.{Stored, stored-last}
+use Rattle.three.proofs.Loops.{Stored, stored-last}
 use Rattle.three.specs.Value.{decode}
 use Rattle.text.specs.Decimal.{decimal}
 use Rattle.putting.specs.PutInCode.{Put}

@@ -5,7 +5,8 @@ use Prim.Native.Nat.{ℕ, _+_, _*_, _<_, _≤_}
 use native.Mathlib.Nat.{one-mul, mul-le-mul-right}
 use native.Mathlib.Omega.{arith}
 use lib.ListN.{length, getD, set}
-use Rattle.three.proofs.Lists.{Stored, stored-next, length-tabulate, getD-tabulate}
+use Rattle.three.proofs.Loops.{Stored, stored-next}
+use Rattle.three.proofs.Lists.{length-tabulate, getD-tabulate}
 use Rattle.stored.specs.CubesInCode.{keptByte, keptBytes}
 
 module _ (len : ℕ) (held b : List ℕ) where

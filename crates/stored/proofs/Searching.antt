@@ -11,7 +11,8 @@ use borrow.Author.Tests.{eq-eqb, ne-eqb}
 use lib.Bits.{bitAnd}
 use lib.Dec.{eqb}
 use lib.ListN.{length, getD}
-use Rattle.three.proofs.Lists.{by-test, Tried, tried-first, tried-next, every-all, every-fails}
+use Rattle.three.proofs.Lists.{by-test, every-all, every-fails}
+use Rattle.three.proofs.Loops.{Tried, tried-first, tried-next}
 use Rattle.stored.specs.CubesInCode.{coversFrom, first}
 
 -- ---- the first number at which a test holds

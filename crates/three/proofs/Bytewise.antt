@@ -14,8 +14,11 @@ use Rattle.three.specs.Value.{Three, code}
 use Rattle.three.specs.Cube.{Cube, alike, blank, agree, merged, subsumes}
 use Rattle.three.specs.Record.{bytesFor, byteOf, byteAt, pack, unpack, IsRecord}
 use Rattle.three.proofs.Lists.{iff, every-at, every-all}
-use Rattle.three.proofs.Pack.{code-small, length-pack, getD-pack, unpack-pack, length-unpack, pack-unpack}
-use Rattle.three.proofs.Merge.{of-two, getD-merged, length-merged, subsumes-keeps, keeps-subsumes}
+use Rattle.three.proofs.Bytes.{code-small}
+use Rattle.three.proofs.Pack.{length-pack, getD-pack, unpack-pack, length-unpack}
+use Rattle.three.proofs.Soundness.{pack-unpack}
+use Rattle.three.proofs.Fields.{of-two}
+use Rattle.three.proofs.Merge.{getD-merged, length-merged, subsumes-keeps, keeps-subsumes}
 
 -- ---- a field, then a byte
 

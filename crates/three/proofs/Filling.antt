@@ -9,8 +9,9 @@ use Rattle.three.specs.Lists.{over}
 use Rattle.three.specs.Value.{Three, unknown, code, decode}
 use Rattle.three.specs.Cube.{Cube}
 use Rattle.three.specs.Record.{bytesFor, byteOf, byteAt, pack}
-use Rattle.three.proofs.Lists.{Stored, stored-next, stored-last, over-paste}
-use Rattle.three.proofs.Pack.{code-small, decode-code, length-pack, getD-pack}
+use Rattle.three.proofs.Loops.{Stored, stored-next, stored-last, over-paste}
+use Rattle.three.proofs.Bytes.{code-small, decode-code}
+use Rattle.three.proofs.Pack.{length-pack, getD-pack}
 
 -- what a code says of its value
 pub is-small : {r : ℕ} (v : Three) → r ≡ code v → r < 3

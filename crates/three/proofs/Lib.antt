@@ -1,7 +1,11 @@
 pub mod Lists
+pub mod Loops
 pub mod Table
-pub mod Pack
+pub mod Fields
 pub mod Merge
-pub mod Bytewise
+pub mod Bytes
+pub mod Pack
+pub mod Soundness
 pub mod Counting
 pub mod Filling
+pub mod Bytewise

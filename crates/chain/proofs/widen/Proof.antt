@@ -1,7 +1,7 @@
 -- `chain::widen` meets its contract: the bytes are widened in turn. Assumes nothing.
 use Prim.Native.Nat.{_-_}
 use lib.ListN.{drop}
-use Rattle.three.proofs.Lists.{Stored, stored-first, stored-last}
+use Rattle.three.proofs.Loops.{Stored, stored-first, stored-last}
 use Rattle.chain.specs.ChainInCode.{widenedBytes}
 use Rattle.chain.proofs.Keeping.{widen-next}
 use native.Mathlib.Omega.{arith}

@@ -1,7 +1,7 @@
 -- `judge::copy_cube` meets its contract: the bytes are copied in turn. Assumes nothing.
 use Prim.Native.Nat.{_-_}
 use lib.ListN.{drop}
-use Rattle.three.proofs.Lists.{Stored, stored-first, stored-last}
+use Rattle.three.proofs.Loops.{Stored, stored-first, stored-last}
 use Rattle.judge.proofs.Judging.{copy-next}
 use native.Mathlib.Omega.{arith}
 use Rattle.judge.proofs.copy_cube.Statement.{statement}

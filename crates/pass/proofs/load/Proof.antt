@@ -1,7 +1,7 @@
 -- `pass::load` meets its contract: the fields are stored in turn. Assumes nothing.
 use Prim.Native.Nat.{_-_}
 use Rattle.three.specs.Record.{unpack}
-use Rattle.three.proofs.Lists.{Stored, stored-first, stored-last}
+use Rattle.three.proofs.Loops.{Stored, stored-first, stored-last}
 use Rattle.pass.specs.ValuesInCode.{Working, valuesOf}
 use Rattle.pass.proofs.Values.{field-small, load-next}
 use native.Mathlib.Omega.{arith}

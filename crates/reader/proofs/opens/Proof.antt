@@ -4,7 +4,7 @@ use Prim.Native.Nat.{_-_}
 use borrow.Author.Tests.{eq-eqb, ne-eqb}
 use lib.Dec.{eqb}
 use lib.ListN.{getD}
-use Rattle.three.proofs.Lists.{Tried, tried-first, tried-next, tried-fails, tried-all}
+use Rattle.three.proofs.Loops.{Tried, tried-first, tried-next, tried-fails, tried-all}
 use Rattle.text.specs.Text.{magic}
 use Rattle.reader.proofs.Opening.{opened-short, opened-alike}
 use native.Mathlib.Omega.{arith}

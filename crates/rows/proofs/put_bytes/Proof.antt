@@ -3,7 +3,7 @@ use Prim.Native.Nat.{_-_}
 use mathlib.Core.Path.{refl}
 use lib.ListN.{length}
 use native.Mathlib.Omega.{arith}
-use Rattle.three.proofs.Lists.{Stored, stored-first, stored-next}
+use Rattle.three.proofs.Loops.{Stored, stored-first, stored-next}
 use Rattle.rows.proofs.Putting.{stored-put}
 use Rattle.rows.proofs.put_bytes.Statement.{statement}
 use Rattle.rows.proofs.put_bytes.Tie as tie

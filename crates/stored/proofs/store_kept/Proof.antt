@@ -1,6 +1,6 @@
 -- `stored::store_kept` meets its contract: the bytes are stored in turn. Assumes nothing.
 use Prim.Native.Nat.{_-_}
-use Rattle.three.proofs.Lists.{Stored, stored-first, stored-last}
+use Rattle.three.proofs.Loops.{Stored, stored-first, stored-last}
 use Rattle.stored.specs.CubesInCode.{keptBytes}
 use Rattle.stored.proofs.Keeping.{kept-next}
 use native.Mathlib.Omega.{arith}

@@ -2,7 +2,7 @@
 use mathlib.Core.Path.{refl}
 use Prim.Native.Nat.{_+_, _-_}
 use borrow.Author.Tests.{lt-leb, le-leb}
-use Rattle.three.proofs.Lists.{Tried, tried-first, tried-next, tried-fails, tried-all}
+use Rattle.three.proofs.Loops.{Tried, tried-first, tried-next, tried-fails, tried-all}
 use Rattle.circuit.specs.RulesInCode.{lampKept}
 use native.Mathlib.Omega.{arith}
 use Rattle.table.proofs.lamps_kept.Statement.{statement}

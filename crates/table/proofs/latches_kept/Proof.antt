@@ -1,7 +1,7 @@
 -- `table::latches_kept` meets its contract: each line is tried in turn. Assumes nothing.
 use Prim.Native.Nat.{_*_, _-_}
 use borrow.Author.Tests.{not-true, not-false}
-use Rattle.three.proofs.Lists.{Tried, tried-first, tried-next, tried-fails, tried-all}
+use Rattle.three.proofs.Loops.{Tried, tried-first, tried-next, tried-fails, tried-all}
 use Rattle.circuit.specs.RulesInCode.{latchKept}
 use native.Mathlib.Omega.{arith}
 use Rattle.table.proofs.latches_kept.Statement.{statement}

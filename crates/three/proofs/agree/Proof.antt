@@ -9,7 +9,7 @@ use lib.ListN.{length, getD, set}
 use Rattle.three.specs.Lists.{over}
 use Rattle.three.specs.Cube.{merged}
 use Rattle.three.specs.Record.{bytesFor, pack, unpack, IsRecord}
-use Rattle.three.proofs.Lists.{Stored, stored-first, stored-next, stored-last, over-paste, getD-paste}
+use Rattle.three.proofs.Loops.{Stored, stored-first, stored-next, stored-last, over-paste, getD-paste}
 use Rattle.three.proofs.Pack.{length-pack, length-unpack}
 use Rattle.three.proofs.Merge.{length-merged}
 use Rattle.three.proofs.Bytewise.{and-record}

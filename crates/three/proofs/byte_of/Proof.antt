@@ -2,7 +2,7 @@
 use native.Mathlib.Omega.{arith}
 use borrow.Author.Needs.{needs}
 use Rattle.three.specs.Record.{byteOf}
-use Rattle.three.proofs.Pack.{code-decode}
+use Rattle.three.proofs.Bytes.{code-decode}
 use Rattle.three.proofs.byte_of.Statement.{statement}
 use Rattle.three.proofs.byte_of.Tie as tie
 

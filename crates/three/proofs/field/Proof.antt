@@ -7,7 +7,7 @@ use lib.ListN.{getD}
 use Rattle.three.specs.Lists.{tabulate}
 use Rattle.three.specs.Record.{pairs, pairAt}
 use Rattle.three.proofs.Table.{same-answers}
-use Rattle.three.proofs.Pack.{pair-digit}
+use Rattle.three.proofs.Bytes.{pair-digit}
 use Rattle.three.proofs.field.Statement.{statement}
 use Rattle.three.proofs.field.Tie as tie
 

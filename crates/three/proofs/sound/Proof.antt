@@ -10,9 +10,9 @@ use lib.Dec.{eqb}
 use lib.ListN.{getD}
 use Rattle.three.specs.Lists.{tabulate}
 use Rattle.three.specs.Record.{bytesFor, judged, leftover, sound}
-use Rattle.three.proofs.Lists.{Tried, tried-first, tried-next, tried-fails, tried-all}
+use Rattle.three.proofs.Loops.{Tried, tried-first, tried-next, tried-fails, tried-all}
 use Rattle.three.proofs.Table.{same-answers}
-use Rattle.three.proofs.Pack.{goodByte}
+use Rattle.three.proofs.Soundness.{goodByte}
 use Rattle.three.proofs.sound.Statement.{statement}
 use Rattle.three.proofs.sound.Tie as tie
 
