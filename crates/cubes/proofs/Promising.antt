@@ -144,4 +144,4 @@ module _ (g : RunGiven) (r : RunAnswer) (cubes verdict′ settled′ : List ℕ)
       (sharply .0, omega (arith, less, sharply .1))
 
   pub promises : Promises g r cubes verdict′ settled′
-  promises = record { covers = run-covers; closes = run-within; closes-sharply = run-sharply }
+  promises = record { covers = run-covers; closes = run-within; closes-sharply = λ ok pos enough. run-sharply ok (omega arith) enough }
