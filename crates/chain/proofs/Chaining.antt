@@ -24,7 +24,7 @@ use Rattle.cubes.specs.Run.{hold, differing, due, nextCube, start, Stage, reach
 use Rattle.stored.specs.CubesInCode.{startFields, keptByte, keptBytes, coversFrom, first, SwitchesX}
 use Rattle.chain.specs.ChainInCode.{heldPair, heldByte, differingByte, widenedBytes, heldAfter, Advanced}
 use Rattle.cubes.proofs.Wider.{reached-sized}
-use Rattle.cubes.proofs.Closes.{held-sized}
+use Rattle.cubes.proofs.Growing.{held-sized}
 use Rattle.stored.proofs.Keeping.{length-kept}
 use Rattle.chain.proofs.Pairs.{kept-byte, widened-byte}
 use Rattle.stored.proofs.Starting.{start-fields}

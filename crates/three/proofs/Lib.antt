@@ -7,5 +7,6 @@ pub mod Bytes
 pub mod Pack
 pub mod Soundness
 pub mod Counting
+pub mod Subsuming
 pub mod Filling
 pub mod Bytewise

@@ -6,3 +6,4 @@ pub mod TickBoolean
 pub mod Switching
 pub mod Refused
 pub mod LampsBefore
+pub mod Reached
