@@ -1,10 +1,10 @@
 -- One pass for a legal circuit: what the steps of `settle` leave is the circuit's values. Assumes nothing.
 use mathlib.Core.Path.{_≡_, sym, ap, ap₂, _∙_}
 use mathlib.Core.List.{List, [], _∷_, _++_}
-use Prim.Native.Nat.{ℕ, zero, suc, _+_, _*_, _<_, _≤_}
+use Prim.Native.Nat.{ℕ, _+_, _*_, _≤_}
 use native.Mathlib.Nat.{zero-add, add-zero, one-mul}
 use native.Mathlib.Omega.{arith}
-use lib.ListN.{length, getD, set, take, replicate, length-set, length-append, length-replicate}
+use lib.ListN.{length, getD, set, take, length-set, length-append}
 use lib.Seq.{paste, take-paste, take-all, take-suc-set, take-append-seam}
 use Rattle.three.specs.Value.{Three, low, decode, ternary}
 use Rattle.three.specs.Cube.{Cube}
@@ -95,13 +95,3 @@ module _ (c : Counts) (words : List ℕ) (legal : Legal c words) where
     lamps-stored =
         tabulate-ext (c .lamps) _ _ (λ i h. rw one-mul (value-begins (getD words (2 * c .latches + i) 0) (legal .lamp i h)))
         ∙ sym (map-tabulate _ (c .lamps) _)
-
--- ---- a new working table
-
-pub fresh : Working (replicate 4096 0)
-fresh = record { long = length-replicate {A = ℕ} 4096 0; codes = zeros 4096 }
-  where
-    zeros : (n i : ℕ) → getD (replicate n 0) i 0 < 3
-    zeros zero i = omega arith
-    zeros (suc n) zero = omega arith
-    zeros (suc n) (suc i) = zeros n i
