@@ -1,5 +1,6 @@
 pub mod Refusals
 pub mod Rules
 pub mod Legality
+pub mod Pass
 pub mod Sound
 pub mod Beyond

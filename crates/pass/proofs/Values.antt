@@ -5,7 +5,6 @@ use Prim.Native.Nat.{ℕ, zero, suc, _+_, _*_, _/_, _%_, _<_, _≤_}
 use native.Mathlib.Nat.{le-of-suc-le-suc, not-suc-le-zero}
 use native.Mathlib.Omega.{arith}
 use lib.ListN.{length, getD, set, take, replicate, length-set, length-map, length-replicate, List·getD-map}
-use lib.Seq.{getD-take}
 use Rattle.three.specs.Record.{pairAt, unpack, IsRecord}
 use Rattle.three.specs.Value.{Three, unknown, low, code, decode, ternary}
 use Rattle.three.proofs.Lists.{Stored, stored-next, length-tabulate, getD-tabulate, getD-beyond}
@@ -95,11 +94,6 @@ module _ (values : List Three) (x : ℕ) where
   value-signed =
       entry-of-row 0 (λ sign v. code (signed ternary sign (decode v))) 2 3 (x % 2) _ (omega arith) (code-small _)
       ∙ ap (λ v. code (signed ternary (x % 2) v)) (decode-code _)
-
-  -- a literal below 2 n is read from the first n values
-  pub value-take : (n : ℕ) → x < 2 * n → value ternary (take n values) x ≡ value ternary values x
-  unfolding value ternary
-  value-take n h = ap (signed ternary (x % 2)) (getD-take n values (x / 2) low (omega arith))
 
 -- ---- a record's fields, loaded in turn
 

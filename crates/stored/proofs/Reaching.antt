@@ -1,11 +1,11 @@
 -- A working table with all switches X serves pass after pass: each gives the circuit's values for the state that was loaded. Assumes nothing.
 use mathlib.Core.Path.{_≡_, sym, ap, _∙_}
-use mathlib.Core.List.{List, [], _∷_, _++_, append-assoc}
+use mathlib.Core.List.{List, _∷_, _++_}
 use Prim.Native.Nat.{ℕ, suc, _+_, _*_, _-_, _≤_}
 use native.Mathlib.Numerals.{one-add}
 use native.Mathlib.Omega.{arith}
 use lib.ListN.{length, getD, take, drop, replicate, length-drop, length-replicate, length-append, List·getD-append}
-use lib.Seq.{paste, take-all, take-append-seam, take-take}
+use lib.Seq.{paste, take-all, take-take}
 use Rattle.three.specs.Lists.{over}
 use Rattle.three.specs.Value.{Three, unknown, low, ternary}
 use Rattle.three.specs.Cube.{Cube}
@@ -13,25 +13,15 @@ use Rattle.three.specs.Record.{bytesFor, pack}
 use Rattle.three.proofs.Lists.{tabulate-ext}
 use Rattle.three.proofs.Pack.{length-pack}
 use Rattle.circuit.specs.declared.Counts.{Counts}
-use Rattle.circuit.specs.Circuit.{Circuit, Gate, pass, settle}
+use Rattle.circuit.specs.Circuit.{Circuit, pass, settle}
 use Rattle.circuit.specs.Table.{circuitOf}
 use Rattle.circuit.specs.RulesInCode.{Legal}
+use Rattle.circuit.proofs.Pass.{length-pass, pass-front}
 use Rattle.pass.specs.ValuesInCode.{valuesOf, Begins, literalValues}
 use Rattle.pass.proofs.Settling.{next-stored, lamps-stored}
 use Rattle.pass.proofs.Values.{length-literals}
 use Rattle.cubes.specs.Run.{switchesUnknown, nextCube, lampsIn}
 use Rattle.stored.specs.CubesInCode.{keptByte, keptBytes, SwitchesX}
-
--- a pass leaves what it starts from
-pass-front : (vs ws : List Three) (gs : List Gate) → take (length vs) (pass ternary (vs ++ ws) gs) ≡ vs
-unfolding pass
-pass-front vs ws [] = take-append-seam vs ws
-pass-front vs ws (g ∷ gs) = rw append-assoc (pass-front vs _ gs)
-
-pass-longer : (vs ws : List Three) (gs : List Gate) → length vs ≤ length (pass ternary (vs ++ ws) gs)
-unfolding pass
-pass-longer vs ws [] = omega (arith, length-append vs ws)
-pass-longer vs ws (g ∷ gs) = rw append-assoc (pass-longer vs _ gs)
 
 module _ (c : Counts) (words : List ℕ) where
   -- the constant and all switches X
@@ -53,9 +43,10 @@ module _ (c : Counts) (words : List ℕ) where
   ready-again t state b = record {
     working = b .working;
     same =
-        sym (take-take (length front) _ (valuesOf t) (pass-longer front state (circuitOf c words .gates)))
+        let long : length front ≤ length (pass ternary (front ++ state) (circuitOf c words .gates)) = rw (length-pass, length-append) (omega arith) in
+        sym (take-take (length front) _ (valuesOf t) long)
         ∙ ap (take (length front)) (b .same)
-        ∙ pass-front front state (circuitOf c words .gates);
+        ∙ pass-front ternary front state (circuitOf c words .gates);
   }
 
 -- ---- the part of a buffer from a byte on, and the next state that is stored from a pass
