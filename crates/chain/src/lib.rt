@@ -95,8 +95,7 @@ fn follow(
     requires { ⌜ Followable counts (now table) len room (now cubes) ⌝ }
     ensures { λ r. ⌜ Chained counts (now (table .entry)) w (now (cubes .entry)) r (now (cubes .exit)) ⌝ }
 {
-    let mut values = [0u8; 4096];
-    pass::put_variable(&mut values, 0, 1);
+    let mut values = pass::fresh_values();
     let mut b = [0u8; 128];
     let mut progress = Progress {
         count: 1,

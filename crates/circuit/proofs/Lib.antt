@@ -1,6 +1,7 @@
 pub mod Refusals
 pub mod Rules
 pub mod Legality
+pub mod Pass
 pub mod Sound
 pub mod Narrow
 pub mod Beyond

@@ -1,16 +1,11 @@
 -- Laws of the order of refusals: what a test that fails, tests that hold, and the number say of each other. Assumes nothing.
-use mathlib.Core.Path.{_≡_, refl, sym}
+use mathlib.Core.Path.{_≡_, refl, sym, _∙_}
 use mathlib.Core.Bool.{true, false}
 use mathlib.Core.List.{List, [], _∷_, _++_}
-use Prim.Native.Nat.{ℕ, zero, suc, _<_, _≤_}
+use Prim.Native.Nat.{ℕ, zero, suc, _<_}
 use native.Mathlib.Omega.{arith}
-use borrow.Author.Tests.{le-leb, lt-leb}
-use lib.ListN.{length}
 use Rattle.three.proofs.Lists.{by-test}
-use Rattle.circuit.specs.declared.Counts.{Counts}
-use Rattle.circuit.specs.Refusal.{Test, refusal, leftBy, allHold, Passed}
-use Rattle.circuit.specs.Table.{top, tableLength, ceilingTests, kinds, tableTests, circuitTests}
-use Rattle.circuit.specs.RulesInCode.{Bounded}
+use Rattle.circuit.specs.Refusal.{Test, refusal, leftBy, Passed}
 
 -- the first test fails
 pub stops : (t : Test) (ts : List Test) → t .holds ≡ false → t .number ≡ refusal (t ∷ ts)
@@ -41,6 +36,19 @@ passes (t ∷ ts) n e =
     (λ h. (h, passes ts (n .1) (rw (refusal, h) at e)))
     (λ h. absurd (let z : 0 ≡ t .number = rw (refusal, h) at e in omega (arith, n .0)))
 
+pub passed-refusal : (ts : List Test) → Passed ts → 0 ≡ refusal ts
+passed-refusal [] p = none
+passed-refusal (t ∷ ts) p = past t ts (p .0) (passed-refusal ts (p .1))
+
+-- tests of one number give it where one of them fails
+abbrev pub Alike : ℕ → List Test → Type 0
+Alike k [] = Unit {0}
+Alike k (t ∷ ts) = (t .number ≡ k) × Alike k ts
+
+pub fails : (k : ℕ) (ts : List Test) → Alike k ts → (Passed ts → ⊥) → k ≡ refusal ts
+fails k [] a h = absurd (h tt)
+fails k (t ∷ ts) a h = by-test (t .holds) (λ e. past t ts e (fails k ts (a .1) (λ p. h (e, p)))) (λ e. sym (a .0) ∙ stops t ts e)
+
 -- a refusal among the first tests stands
 pub refusal-append : (ss ts : List Test) {k : ℕ} → refusal ss ≡ suc k → suc k ≡ refusal (ss ++ ts)
 unfolding refusal
@@ -64,43 +72,18 @@ pub passed-append : (ss ts : List Test) → Passed (ss ++ ts) → Passed ss × P
 passed-append [] ts p = (tt, p)
 passed-append (s ∷ ss) ts p = let q = passed-append ss ts (p .1) in ((p .0, q .0), q .1)
 
--- ---- the refusals of every call that is given a circuit
+-- where they refuse nothing the others decide
+pub none-past : (ss ts : List Test) {k : ℕ} → Numbered ss → 0 ≡ refusal ss → k ≡ refusal ts → k ≡ refusal (ss ++ ts)
+none-past ss ts n z = append-past ss ts (passes ss n z)
 
-module _ (c : Counts) (table : List ℕ) where
-  past-ceilings : Bounded c → (ts : List Test) {k : ℕ} → k ≡ refusal ts → k ≡ refusal (ceilingTests c ++ ts)
-  unfolding ceilingTests
-  past-ceilings b ts e =
-      past _ _ (le-leb (c .inputs) 256 (b .inputs))
-      (past _ _ (le-leb (c .latches) 512 (b .latches)) (past _ _ (le-leb (c .lamps) 64 (b .lamps)) (past _ _ (le-leb (c .gates) 3327 (b .gates)) e)))
-
-  pub inputs-over : 256 < c .inputs → 3 ≡ refusal (circuitTests c table)
-  unfolding circuitTests ceilingTests
-  inputs-over h = stops _ _ (lt-leb (c .inputs) 256 h)
-
-  pub latches-over : c .inputs ≤ 256 → 512 < c .latches → 3 ≡ refusal (circuitTests c table)
-  unfolding circuitTests ceilingTests
-  latches-over i h = past _ _ (le-leb (c .inputs) 256 i) (stops _ _ (lt-leb (c .latches) 512 h))
-
-  pub lamps-over : c .inputs ≤ 256 → c .latches ≤ 512 → 64 < c .lamps → 3 ≡ refusal (circuitTests c table)
-  unfolding circuitTests ceilingTests
-  lamps-over i l h = past _ _ (le-leb (c .inputs) 256 i) (past _ _ (le-leb (c .latches) 512 l) (stops _ _ (lt-leb (c .lamps) 64 h)))
-
-  pub gates-over : c .inputs ≤ 256 → c .latches ≤ 512 → c .lamps ≤ 64 → 3327 < c .gates → 3 ≡ refusal (circuitTests c table)
-  unfolding circuitTests ceilingTests
-  gates-over i l o h =
-      past _ _ (le-leb (c .inputs) 256 i) (past _ _ (le-leb (c .latches) 512 l) (past _ _ (le-leb (c .lamps) 64 o) (stops _ _ (lt-leb (c .gates) 3327 h))))
-
-  pub table-short : Bounded c → length table < tableLength c → 10 ≡ refusal (circuitTests c table)
-  unfolding circuitTests
-  table-short b h = past-ceilings b _ (stops _ _ (lt-leb (tableLength c) (length table) h))
-
-  pub rules-broken : Bounded c → tableLength c ≤ length table → allHold (tableTests (top c) (kinds c) table) ≡ false → 11 ≡ refusal (circuitTests c table)
-  unfolding circuitTests
-  rules-broken b l h = past-ceilings b _ (past _ _ (le-leb (tableLength c) (length table) l) (stops _ _ h))
-
-  pub circuit-passes : Bounded c → tableLength c ≤ length table → allHold (tableTests (top c) (kinds c) table) ≡ true → 0 ≡ refusal (circuitTests c table)
-  unfolding circuitTests
-  circuit-passes b l h = past-ceilings b _ (past _ _ (le-leb (tableLength c) (length table) l) (past _ _ h none))
+-- where nothing is refused the first tests refuse nothing, nor do the others
+pub none-append : (ss ts : List Test) → Numbered ss → 0 ≡ refusal (ss ++ ts) → (0 ≡ refusal ss) × (0 ≡ refusal ts)
+unfolding refusal
+none-append [] ts n e = (none, e)
+none-append (s ∷ ss) ts n e =
+    by-test (s .holds)
+    (λ h. let q = none-append ss ts (n .1) (rw (refusal, h) at e) in (past s ss h (q .0), q .1))
+    (λ h. absurd (let z : 0 ≡ s .number = rw (refusal, h) at e in omega (arith, n .0)))
 
 -- ---- what a call leaves
 

@@ -75,8 +75,14 @@ circuitOf c words = record {
   gates = gatesFrom words (2 * c .latches + c .lamps) (c .gates);
 }
 
--- every call that is given a circuit: 3, 10 for the table, 11
+-- 10 for the table, 11
+unfoldable pub wordTests : Counts → List ℕ → List Test
+wordTests c table = leb (tableLength c) (length table) or 10 ∷ allHold (tableTests (top c) (kinds c) table) or 11 ∷ []
+
+-- a circuit that is written, or read for a tick: 3, 10 for the table, 11
 unfoldable pub circuitTests : Counts → List ℕ → List Test
-circuitTests c table =
-    ceilingTests c
-    ++ (leb (tableLength c) (length table) or 10 ∷ allHold (tableTests (top c) (kinds c) table) or 11 ∷ [])
+circuitTests c table = ceilingTests c ++ wordTests c table
+
+-- a circuit that is run: the same
+unfoldable pub boardTests : Counts → List ℕ → List Test
+boardTests c table = ceilingTests c ++ wordTests c table

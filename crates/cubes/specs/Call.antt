@@ -10,7 +10,7 @@ use Rattle.three.specs.Record.{bytesFor, pack, unpack}
 use Rattle.circuit.specs.declared.Counts.{Counts}
 use Rattle.circuit.specs.Circuit.{Circuit}
 use Rattle.circuit.specs.Refusal.{Test, _or_, refusal, leftBy}
-use Rattle.circuit.specs.Table.{circuitOf, circuitTests}
+use Rattle.circuit.specs.Table.{circuitOf, boardTests}
 use Rattle.cubes.specs.declared.RunAnswer.{RunAnswer}
 use Rattle.cubes.specs.Run.{cubeAt, Ending, closed, full, run, verdict, settled}
 
@@ -51,7 +51,7 @@ runResultTests c verdict settled = leb (bytesFor (c .lamps)) verdict or 10 ∷ l
 -- 3, 10 for the table, 11, 12, 13, 10 for results; the buffers by their lengths
 unfoldable pub runTests : Counts → List ℕ → ℕ → ℕ → ℕ → ℕ → List Test
 runTests c table w cubes verdict settled =
-    circuitTests c table
+    boardTests c table
     ++ (leb w 1000 or 12
     ∷ leb (bytesFor (c .latches)) cubes or 13
     ∷ leb cubes 65536 or 13

@@ -1,5 +1,6 @@
 // Verdict, settled record and s, from the cubes in a buffer (document 01, Run).
 use circuit::Counts;
+use pass::Values;
 ghost use mathlib.Core.Path.{_≡_};
 ghost use Prim.Native.Nat.{_+_, _*_, _-_, _<_, _≤_};
 ghost use lib.ListN.{length, drop};
@@ -19,7 +20,7 @@ fn lamps_at(
     table: &[u16],
     cubes: &[u8],
     at: usize,
-    values: &mut [u8; 4096],
+    values: &mut Values,
     out: &mut [u8],
 )
     requires { ⌜ Legal counts (now table) × (at ≤ length (now cubes)) × IsRecord (counts .latches) (drop at (now cubes)) × SwitchesX counts (now values) × (bytesFor (counts .lamps) ≤ length (now out)) ⌝ }
@@ -41,8 +42,7 @@ fn judge_lamps(
     requires { ⌜ Judgeable counts (now table) len n (now cubes) × (bytesFor (counts .lamps) ≤ length (now verdict)) ⌝ }
     ensures { λ _. ⌜ now (verdict .exit) ≡ over (pack (verdictOf (circuitOf counts (now (table .entry))) (cubeIn (counts .latches) (now (cubes .entry))) n)) (now (verdict .entry)) ⌝ }
 {
-    let mut values = [0u8; 4096];
-    pass::put_variable(&mut values, 0, 1);
+    let mut values = pass::fresh_values();
     lamps_at(counts, table, cubes, 0, &mut values, verdict);
     let mut lamps = [0u8; 16];
     for k in 1..n {

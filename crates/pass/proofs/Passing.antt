@@ -12,7 +12,8 @@ use Rattle.three.proofs.Lists.{length-tabulate, getD-tabulate}
 use Rattle.circuit.specs.Circuit.{Gate, value, pass}
 use Rattle.circuit.specs.Table.{gatesFrom}
 use Rattle.pass.specs.ValuesInCode.{valuesOf, Working, Gateable, passed}
-use Rattle.pass.proofs.Values.{length-values, value-take}
+use Rattle.circuit.proofs.Pass.{value-take}
+use Rattle.pass.proofs.Values.{length-values}
 
 module _ (words : List ℕ) (at first count : ℕ) where
   -- a working table has room for the gates
@@ -57,7 +58,7 @@ module _ (words : List ℕ) (at first count : ℕ) where
         same =
             let n : first + (i + 1) ≡ suc (first + i) = omega arith in
             let seen : v ≡ both (value ternary (take (first + i) vs) (left i)) (value ternary (take (first + i) vs) (right i)) =
-            e ∙ ap₂ both (sym (value-take vs (left i) (first + i) (g .left i h))) (sym (value-take vs (right i) (first + i) (g .right i h))) in
+            e ∙ ap₂ both (sym (value-take ternary vs (left i) (first + i) (g .left i h))) (sym (value-take ternary vs (right i) (first + i) (g .right i h))) in
             let s = t .same in
             rw (n, add-one, take-suc-set vs (first + i) v (omega (arith, t .long)), seen) (rw (gates-cons i h) at s);
       }

@@ -1,20 +1,21 @@
 -- One pass for a legal circuit: what the steps of `settle` leave is the circuit's values. Assumes nothing.
 use mathlib.Core.Path.{_≡_, sym, ap, ap₂, _∙_}
-use mathlib.Core.List.{List, [], _∷_, _++_}
-use Prim.Native.Nat.{ℕ, zero, suc, _+_, _*_, _<_, _≤_}
-use native.Mathlib.Nat.{zero-add, add-zero, one-mul}
+use mathlib.Core.List.{List, _∷_, _++_}
+use Prim.Native.Nat.{ℕ, _+_, _*_, _≤_}
+use native.Mathlib.Nat.{zero-add, one-mul}
 use native.Mathlib.Omega.{arith}
-use lib.ListN.{length, getD, set, take, replicate, length-set, length-append, length-replicate}
+use lib.ListN.{length, getD, set, take, length-set, length-append}
 use lib.Seq.{paste, take-paste, take-all, take-suc-set, take-append-seam}
 use Rattle.three.specs.Value.{Three, low, decode, ternary}
 use Rattle.three.specs.Cube.{Cube}
 use Rattle.three.proofs.Lists.{length-tabulate, map-tabulate, tabulate-ext}
 use Rattle.circuit.specs.declared.Counts.{Counts}
-use Rattle.circuit.specs.Circuit.{Gate, value, pass, settle, next, lamps}
+use Rattle.circuit.specs.Circuit.{value, pass, settle, next, lamps}
 use Rattle.circuit.specs.Table.{top, gatesFrom, circuitOf}
 use Rattle.circuit.specs.RulesInCode.{Legal}
 use Rattle.pass.specs.ValuesInCode.{valuesOf, Working, Holding, Begins, Gateable, Readable, literalValues, passed}
-use Rattle.pass.proofs.Values.{length-values, value-take}
+use Rattle.circuit.proofs.Pass.{value-take, length-pass}
+use Rattle.pass.proofs.Values.{length-values}
 
 module _ (c : Counts) (words : List ℕ) (legal : Legal c words) where
   pub legal-gates : Gateable words (2 * c .latches + c .lamps) (1 + c .inputs + c .latches) (c .gates)
@@ -57,11 +58,6 @@ module _ (c : Counts) (words : List ℕ) (legal : Legal c words) where
 
 -- ---- a literal of the circuit is read from the values that the table begins with
 
-length-pass : (vs : List Three) (gs : List Gate) → length (pass ternary vs gs) ≡ length vs + length gs
-unfolding pass
-length-pass vs [] = sym (add-zero (length vs))
-length-pass vs (g ∷ gs) = length-pass _ gs ∙ rw length-append (omega arith)
-
 module _ (c : Counts) (words : List ℕ) (legal : Legal c words) where
   -- the literals of the latches' next states, and of the lamps
   pub next-readable : Readable words 0 2 (c .latches)
@@ -77,11 +73,11 @@ module _ (c : Counts) (words : List ℕ) (legal : Legal c words) where
 
     length-settle : length values ≡ 1 + c .inputs + c .latches + c .gates
     unfolding settle circuitOf gatesFrom
-    length-settle = length-pass _ _ ∙ rw (length-append, length-tabulate) (omega arith)
+    length-settle = length-pass ternary _ _ ∙ rw (length-append, length-tabulate) (omega arith)
 
     value-begins : (x : ℕ) → x ≤ top c → value ternary (valuesOf table) x ≡ value ternary values x
     value-begins x h =
-        sym (value-take (valuesOf table) x (length values) (omega (arith, length-settle)))
+        sym (value-take ternary (valuesOf table) x (length values) (omega (arith, length-settle)))
         ∙ ap (λ (l : List Three). value ternary l x) (begins .same)
 
     pub next-stored : literalValues (valuesOf table) words 0 2 (c .latches) ≡ next ternary (circuitOf c words) switches state
@@ -95,13 +91,3 @@ module _ (c : Counts) (words : List ℕ) (legal : Legal c words) where
     lamps-stored =
         tabulate-ext (c .lamps) _ _ (λ i h. rw one-mul (value-begins (getD words (2 * c .latches + i) 0) (legal .lamp i h)))
         ∙ sym (map-tabulate _ (c .lamps) _)
-
--- ---- a new working table
-
-pub fresh : Working (replicate 4096 0)
-fresh = record { long = length-replicate {A = ℕ} 4096 0; codes = zeros 4096 }
-  where
-    zeros : (n i : ℕ) → getD (replicate n 0) i 0 < 3
-    zeros zero i = omega arith
-    zeros (suc n) zero = omega arith
-    zeros (suc n) (suc i) = zeros n i

@@ -4,8 +4,7 @@ use mathlib.Core.List.{List, [], _∷_, map}
 use Prim.Native.Nat.{ℕ, zero, suc, _+_, _*_, _/_, _%_, _<_, _≤_}
 use native.Mathlib.Nat.{le-of-suc-le-suc, not-suc-le-zero}
 use native.Mathlib.Omega.{arith}
-use lib.ListN.{length, getD, set, take, length-set, length-map, List·getD-map}
-use lib.Seq.{getD-take}
+use lib.ListN.{length, getD, set, take, replicate, length-set, length-map, length-replicate, List·getD-map}
 use Rattle.three.specs.Record.{pairAt, unpack, IsRecord}
 use Rattle.three.specs.Value.{Three, unknown, low, code, decode, ternary}
 use Rattle.three.proofs.Loops.{Stored, stored-next}
@@ -15,7 +14,7 @@ use Rattle.three.proofs.Bytes.{code-small, code-decode, decode-code}
 use Rattle.three.proofs.Pack.{length-unpack}
 use Rattle.three.proofs.Soundness.{sound-pair}
 use Rattle.circuit.specs.Circuit.{signed, value}
-use Rattle.pass.specs.ValuesInCode.{valuesOf, Working, Holding, signTable, literalValues}
+use Rattle.pass.specs.ValuesInCode.{valuesOf, freshValues, Working, Holding, Begins, signTable, literalValues}
 
 -- ---- a variable read, and written
 
@@ -54,6 +53,41 @@ pub length-values : (table : List ℕ) → length (valuesOf table) ≡ length ta
 unfolding valuesOf
 length-values table = length-map table decode
 
+-- ---- a new working table
+
+pub fresh-working : Working (replicate 4096 0)
+fresh-working = record { long = length-replicate {A = ℕ} 4096 0; codes = zeros 4096 }
+  where
+    zeros : (n i : ℕ) → getD (replicate n 0) i 0 < 3
+    zeros zero i = omega arith
+    zeros (suc n) zero = omega arith
+    zeros (suc n) (suc i) = zeros n i
+
+zeros-unknown : (n : ℕ) → map decode (replicate n 0) ≡ replicate n unknown
+unfolding decode
+zeros-unknown zero = refl
+zeros-unknown (suc n) = ap (λ l. unknown ∷ l) (zeros-unknown n)
+
+pub fresh-holds : (table : List ℕ) → Holding table (set (valuesOf (replicate 4096 0)) 0 (decode 1)) → Holding table freshValues
+unfolding valuesOf freshValues decode
+fresh-holds table put = record { working = put .working; same = put .same ∙ ap (λ (l : List Three). low ∷ l) (zeros-unknown 4095) }
+
+take-replicate : (m n : ℕ) → m ≤ n → take m (replicate n unknown) ≡ replicate m unknown
+take-replicate zero n h = refl
+take-replicate (suc m) zero h = absurd (omega arith)
+take-replicate (suc m) (suc n) h = ap (λ l. unknown ∷ l) (take-replicate m n (omega arith))
+
+-- it begins with the constant and any number of X
+pub fresh-begins : (table : List ℕ) (n : ℕ) → n < 4096 → Holding table freshValues → Begins table (low ∷ replicate n unknown)
+unfolding freshValues
+fresh-begins table n h holds = record {
+  working = holds .working;
+  same =
+      ap (λ (k : ℕ). take (suc k) (valuesOf table)) (length-replicate n unknown)
+      ∙ ap (take (suc n)) (holds .same)
+      ∙ ap (λ (l : List Three). low ∷ l) (take-replicate n 4095 (omega arith));
+}
+
 -- ---- a literal's value
 
 module _ (values : List Three) (x : ℕ) where
@@ -63,11 +97,6 @@ module _ (values : List Three) (x : ℕ) where
   value-signed =
       entry-of-row 0 (λ sign v. code (signed ternary sign (decode v))) 2 3 (x % 2) _ (omega arith) (code-small _)
       ∙ ap (λ v. code (signed ternary (x % 2) v)) (decode-code _)
-
-  -- a literal below 2 n is read from the first n values
-  pub value-take : (n : ℕ) → x < 2 * n → value ternary (take n values) x ≡ value ternary values x
-  unfolding value ternary
-  value-take n h = ap (signed ternary (x % 2)) (getD-take n values (x / 2) low (omega arith))
 
 -- ---- a record's fields, loaded in turn
 

@@ -1,10 +1,10 @@
 -- The working table of a pass (document 01, Tick), as the code holds it: 4,096 values, one for each variable. Assumes nothing.
 use mathlib.Core.Path.{_≡_}
-use mathlib.Core.List.{List, _++_, map}
+use mathlib.Core.List.{List, _∷_, _++_, map}
 use Prim.Native.Nat.{ℕ, _+_, _*_, _<_, _≤_}
-use lib.ListN.{length, getD, take, drop}
+use lib.ListN.{length, getD, take, drop, replicate}
 use Rattle.three.specs.Lists.{tabulate}
-use Rattle.three.specs.Value.{Three, code, decode, ternary}
+use Rattle.three.specs.Value.{Three, unknown, low, code, decode, ternary}
 use Rattle.three.specs.Cube.{Cube}
 use Rattle.circuit.specs.Circuit.{signed, value, pass}
 use Rattle.circuit.specs.Table.{gatesFrom}
@@ -12,6 +12,10 @@ use Rattle.circuit.specs.Table.{gatesFrom}
 -- the values that a working table holds
 unfoldable pub valuesOf : List ℕ → List Three
 valuesOf table = map decode table
+
+-- those of a new one: the constant, and all else X
+unfoldable pub freshValues : List Three
+freshValues = low ∷ replicate 4095 unknown
 
 -- 4,096 values
 pub record Working (table : List ℕ) : Type 0 where

@@ -11,17 +11,28 @@ ghost use Rattle.three.specs.Record.{bytesFor, byteAt, pack, unpack, IsRecord};
 ghost use Rattle.circuit.specs.Circuit.{value, pass, settle as settleValues};
 ghost use Rattle.circuit.specs.Table.{circuitOf};
 ghost use Rattle.circuit.specs.RulesInCode.{Legal};
-ghost use Rattle.pass.specs.ValuesInCode.{valuesOf, Working, Holding, Begins, signTable, Gateable, Readable, literalValues, passed};
+ghost use Rattle.pass.specs.ValuesInCode.{valuesOf, freshValues, Working, Holding, Begins, signTable, Gateable, Readable, literalValues, passed};
 
-// The working table is reached through these two functions alone.
-fn variable(values: &[u8; 4096], v: usize) -> u8
+// "a working table of 4,096 values"
+pub type Values = [u8; 4096];
+
+// It is made and reached through these three functions alone.
+pub fn fresh_values() -> Values
+    ensures { λ r. ⌜ Holding r freshValues ⌝ }
+{
+    let mut values = [0u8; 4096];
+    put_variable(&mut values, 0, 1); // the constant
+    values
+}
+
+fn variable(values: &Values, v: usize) -> u8
     requires { ⌜ (v < 4096) × Working (now values) ⌝ }
     ensures { λ r. ⌜ r ≡ code (getD (valuesOf (now (values .entry))) v low) ⌝ }
 {
     values[v]
 }
 
-pub fn put_variable(values: &mut [u8; 4096], v: usize, x: u8)
+fn put_variable(values: &mut Values, v: usize, x: u8)
     requires { ⌜ (v < 4096) × (x < 3) × Working (now values) ⌝ }
     ensures { λ _. ⌜ Holding (now (values .exit)) (set (valuesOf (now (values .entry))) v (decode x)) ⌝ }
 {
@@ -39,7 +50,7 @@ fn sign_table() -> [[u8; 3]; 2]
 }
 
 // "A literal is 2 × variable, plus 1 if inverted."
-fn literal(signs: &[[u8; 3]; 2], values: &[u8; 4096], x: u16) -> u8
+fn literal(signs: &[[u8; 3]; 2], values: &Values, x: u16) -> u8
     requires { ⌜ (now signs ≡ signTable) × (x < 8192) × Working (now values) ⌝ }
     ensures { λ r. ⌜ r ≡ code (value ternary (valuesOf (now (values .entry))) x) ⌝ }
 {
@@ -47,13 +58,7 @@ fn literal(signs: &[[u8; 3]; 2], values: &[u8; 4096], x: u16) -> u8
     signs[(x % 2) as usize][v as usize]
 }
 
-fn gate(
-    answers: &[[u8; 3]; 3],
-    signs: &[[u8; 3]; 2],
-    values: &[u8; 4096],
-    left: u16,
-    right: u16,
-) -> u8
+fn gate(answers: &[[u8; 3]; 3], signs: &[[u8; 3]; 2], values: &Values, left: u16, right: u16) -> u8
     requires { ⌜ (now answers ≡ gateTable) × (now signs ≡ signTable) × (left < 8192) × (right < 8192) × Working (now values) ⌝ }
     ensures { λ r. ⌜ r ≡ code (both (value ternary (valuesOf (now (values .entry))) left) (value ternary (valuesOf (now (values .entry))) right)) ⌝ }
 {
@@ -65,7 +70,7 @@ fn gate(
 }
 
 // "Gates are taken in order": those from word `at` on, the first of them variable `first`.
-fn gates(table: &[u16], at: usize, first: usize, count: usize, values: &mut [u8; 4096])
+fn gates(table: &[u16], at: usize, first: usize, count: usize, values: &mut Values)
     requires { ⌜ Gateable (now table) at first count × Working (now values) ⌝ }
     ensures { λ _. ⌜ Holding (now (values .exit)) (passed (now (table .entry)) at first count (valuesOf (now (values .entry)))) ⌝ }
 {
@@ -79,7 +84,7 @@ fn gates(table: &[u16], at: usize, first: usize, count: usize, values: &mut [u8;
 }
 
 // The fields of a record as the values of the variables from `first` on.
-fn load(bytes: &[u8], first: usize, count: usize, values: &mut [u8; 4096])
+fn load(bytes: &[u8], first: usize, count: usize, values: &mut Values)
     requires { ⌜ IsRecord count (now bytes) × (first + count ≤ 4096) × Working (now values) ⌝ }
     ensures { λ _. ⌜ Holding (now (values .exit)) (paste (valuesOf (now (values .entry))) first (unpack count (now (bytes .entry))) count) ⌝ }
 {
@@ -90,7 +95,7 @@ fn load(bytes: &[u8], first: usize, count: usize, values: &mut [u8; 4096])
 }
 
 // One pass over a state, for the constant and the switches that stand in the table: the state, and then each gate in order.
-pub fn settle_state(counts: Counts, table: &[u16], state: &[u8], values: &mut [u8; 4096])
+pub fn settle_state(counts: Counts, table: &[u16], state: &[u8], values: &mut Values)
     requires { ⌜ Legal counts (now table) × IsRecord (counts .latches) (now state) × Working (now values) ⌝ }
     ensures { λ _. ⌜ Begins (now (values .exit)) (pass ternary (take (1 + counts .inputs) (valuesOf (now (values .entry))) ++ unpack (counts .latches) (now (state .entry))) (circuitOf counts (now (table .entry)) .gates)) ⌝ }
 {
@@ -107,7 +112,7 @@ pub fn settle_state(counts: Counts, table: &[u16], state: &[u8], values: &mut [u
 }
 
 // One pass: the constant, the switches, the state, and then each gate in order.
-pub fn settle(counts: Counts, table: &[u16], state: &[u8], switches: &[u8], values: &mut [u8; 4096])
+pub fn settle(counts: Counts, table: &[u16], state: &[u8], switches: &[u8], values: &mut Values)
     requires { ⌜ Legal counts (now table) × IsRecord (counts .latches) (now state) × IsRecord (counts .inputs) (now switches) × Working (now values) ⌝ }
     ensures { λ _. ⌜ Begins (now (values .exit)) (settleValues ternary (circuitOf counts (now (table .entry))) (unpack (counts .inputs) (now (switches .entry))) (unpack (counts .latches) (now (state .entry)))) ⌝ }
 {
@@ -119,7 +124,7 @@ pub fn settle(counts: Counts, table: &[u16], state: &[u8], switches: &[u8], valu
 // Literal number i of `count`, one every `step` words from word `at` on; a field beyond them is X.
 fn literal_field(
     signs: &[[u8; 3]; 2],
-    values: &[u8; 4096],
+    values: &Values,
     table: &[u16],
     at: usize,
     step: usize,
@@ -138,7 +143,7 @@ fn literal_field(
 // Byte number k of the record of those literals' values.
 fn literal_byte(
     signs: &[[u8; 3]; 2],
-    values: &[u8; 4096],
+    values: &Values,
     table: &[u16],
     at: usize,
     step: usize,
@@ -157,14 +162,7 @@ fn literal_byte(
 }
 
 // That record, into the front of `out`.
-pub fn store(
-    values: &[u8; 4096],
-    table: &[u16],
-    at: usize,
-    step: usize,
-    count: usize,
-    out: &mut [u8],
-)
+pub fn store(values: &Values, table: &[u16], at: usize, step: usize, count: usize, out: &mut [u8])
     requires { ⌜ Readable (now table) at step count × Working (now values) × (count ≤ 4096) × (bytesFor count ≤ length (now out)) ⌝ }
     ensures { λ _. ⌜ now (out .exit) ≡ over (pack (literalValues (valuesOf (now (values .entry))) (now (table .entry)) at step count)) (now (out .entry)) ⌝ }
 {

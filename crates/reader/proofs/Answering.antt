@@ -21,7 +21,7 @@ use Rattle.reader.specs.declared.Judgement.{Judgement}
 use Rattle.lines.specs.LinesInCode.{from, numbersOf, LineFound}
 use Rattle.reader.specs.ReaderInCode.{bare, answer, BodyAt, TextJudged, bodyWords, stand, Fillable}
 use Rattle.circuit.proofs.Refusals.{passes}
-use Rattle.text.proofs.Tables.{passed-bounded}
+use Rattle.circuit.proofs.Legality.{passed-bounded}
 use Rattle.text.proofs.Steps.{text-long, header-ill, header-stops, header-fits}
 use Rattle.text.proofs.Grammar.{describes}
 use Rattle.text.proofs.Answers.{read-stops, read-short, read-fits, reading-refused, reading-accepted}

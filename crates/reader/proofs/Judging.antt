@@ -11,13 +11,11 @@ use Rattle.three.proofs.Lists.{by-test}
 use Rattle.circuit.specs.declared.Counts.{Counts}
 use Rattle.circuit.specs.Refusal.{Test, _or_, refusal}
 use Rattle.circuit.specs.Table.{variables, ceilingTests, Kind, input, latch, lamp, gate, rowTests}
-use Rattle.circuit.specs.RulesInCode.{Bounded}
-use Rattle.circuit.proofs.Refusals.{stops, past, none}
+use Rattle.circuit.proofs.Refusals.{stops, past, none, passed-refusal, fails}
 use Rattle.lines.specs.declared.ReadLine.{ReadLine}
 use Rattle.text.specs.Text.{fits, owns, words, lineTests, countsOf, headerTests}
 use Rattle.lines.specs.LinesInCode.{Shape, numbersOf}
-use Rattle.text.proofs.Outcomes.{passed-refusal}
-use Rattle.text.proofs.Tables.{bounded-passed}
+use Rattle.circuit.proofs.Legality.{ceilings-alike}
 use Rattle.lines.proofs.Finding.{line-length}
 
 -- a test with the number that the others give anyway
@@ -36,31 +34,15 @@ module _ (l : ReadLine) (s : Shape l) where
     unfolding headerTests
     header-past h = past _ _ (rw (line-length l s) (eq-eqb (l .count) 5 five)) (rw e at h)
 
-    pub header-inputs : 256 < c .inputs → 3 ≡ refusal (headerTests (numbersOf l))
-    unfolding ceilingTests
-    header-inputs h = header-past (either _ _ (stops _ _ (lt-leb (c .inputs) 256 h)))
-
-    module _ (i : c .inputs ≤ 256) where
-      pub header-latches : 512 < c .latches → 3 ≡ refusal (headerTests (numbersOf l))
-      unfolding ceilingTests
-      header-latches h = header-past (either _ _ (past _ _ (le-leb (c .inputs) 256 i) (stops _ _ (lt-leb (c .latches) 512 h))))
-
-      module _ (j : c .latches ≤ 512) where
-        pub header-lamps : 64 < c .lamps → 3 ≡ refusal (headerTests (numbersOf l))
-        unfolding ceilingTests
-        header-lamps h = header-past (either _ _ (past _ _ (le-leb (c .inputs) 256 i) (past _ _ (le-leb (c .latches) 512 j) (stops _ _ (lt-leb (c .lamps) 64 h)))))
-
-        pub header-gates : c .lamps ≤ 64 → 3327 < c .gates → 3 ≡ refusal (headerTests (numbersOf l))
-        unfolding ceilingTests
-        header-gates k h =
-            header-past (either _ _ (past _ _ (le-leb (c .inputs) 256 i) (past _ _ (le-leb (c .latches) 512 j) (past _ _ (le-leb (c .lamps) 64 k) (stops _ _ (lt-leb (c .gates) 3327 h))))))
+    pub header-over : {k : ℕ} → k ≡ refusal (ceilingTests c) → (k ≡ 0 → ⊥) → 3 ≡ refusal (headerTests (numbersOf l))
+    header-over r h = header-past (either _ _ (fails 3 (ceilingTests c) (ceilings-alike c) (λ p. h (r ∙ sym (passed-refusal (ceilingTests c) p)))))
 
     module _ {m : ℕ} (given : m ≡ getD (numbersOf l) 0 0) where
       pub header-sum : (m ≡ variables c → ⊥) → 3 ≡ refusal (headerTests (numbersOf l))
       header-sum h = header-past (stops _ _ (ne-eqb _ _ (λ q. h (given ∙ q))))
 
-      pub header-passes : Bounded c → m ≡ variables c → 0 ≡ refusal (headerTests (numbersOf l))
-      header-passes b h = header-past (past _ _ (eq-eqb _ _ (sym given ∙ h)) (passed-refusal _ (bounded-passed c b)))
+      pub header-passes : {k : ℕ} → k ≡ refusal (ceilingTests c) → k ≡ 0 → m ≡ variables c → 0 ≡ refusal (headerTests (numbersOf l))
+      header-passes r z h = header-past (past _ _ (eq-eqb _ _ (sym given ∙ h)) (sym z ∙ r))
 
 -- ---- a line: its count, its own literal, and then its words
 

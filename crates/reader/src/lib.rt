@@ -72,16 +72,7 @@ fn header_refusal(first: ReadLine) -> u32
         return 2;
     }
     let counts = counts_of(first);
-    if counts.inputs > circuit::MOST_INPUTS {
-        return 3;
-    }
-    if counts.latches > circuit::MOST_LATCHES {
-        return 3;
-    }
-    if counts.lamps > circuit::MOST_LAMPS {
-        return 3;
-    }
-    if counts.gates > circuit::MOST_GATES {
+    if table::ceiling_refusal(counts) != 0 {
         return 3;
     }
     if lines::entry(first, 0) != counts.inputs + counts.latches + counts.gates {

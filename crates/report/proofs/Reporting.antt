@@ -10,7 +10,7 @@ use Rattle.three.specs.Record.{bytesFor, unpack}
 use Rattle.circuit.specs.declared.Counts.{Counts}
 use Rattle.circuit.specs.Circuit.{Circuit}
 use Rattle.circuit.specs.Refusal.{refusal}
-use Rattle.circuit.specs.Table.{tableLength, circuitOf, circuitTests}
+use Rattle.circuit.specs.Table.{tableLength, circuitOf, boardTests}
 use Rattle.circuit.specs.RulesInCode.{Bounded}
 use Rattle.circuit.proofs.Beyond.{circuit-front}
 use Rattle.text.specs.Outcome.{Outcome, accepted, refused, numberOf, leaves}
@@ -31,6 +31,7 @@ use Rattle.cubes.proofs.Promising.{outcome-is, verdict-is, settled-is, count-is
 use Rattle.rows.specs.declared.Row.{Row}
 use Rattle.rows.specs.Rows.{rows}
 use Rattle.report.specs.Report.{closing, refusing, closedReport, ended, runReport, reported, reportOf, Reported}
+use Rattle.circuit.proofs.Legality.{board-passes}
 
 -- a report that is put from the front
 pub put-report : {text out out′ : List ℕ} {r : ℕ} (report : List ℕ) → report ≡ reportOf text → Put out 0 report out′ r × (r ≤ length out) → Reported text out r out′
@@ -90,12 +91,12 @@ module _ {text : List ℕ} {counts : Counts} {table : List ℕ} (read : Read tex
   abbrev pub given : RunGiven
   given = record { counts = counts; table = table; w = 16; cubes = cubes; verdict = verdict; settled = settled }
 
-  legal : 0 ≡ refusal (circuitTests counts table)
-  legal = rw (read .counts-are) (read .carries .legal)
+  runnable : 0 ≡ refusal (boardTests counts table)
+  runnable = rw (read .counts-are) (board-passes _ _ (read .carries .legal))
 
   passes : refusedBy given ≡ 0
   unfolding refusedBy
-  passes = sym (run-passes counts table 16 (length cubes) (length verdict) (length settled) legal (omega arith) (omega (arith, few read, c)) (omega (arith, c)) (omega (arith, few read, v)) (omega (arith, few read, s)))
+  passes = sym (run-passes counts table 16 (length cubes) (length verdict) (length settled) runnable (omega arith) (omega (arith, few read, c)) (omega (arith, c)) (omega (arith, few read, v)) (omega (arith, few read, s)))
 
   same-circuit : circuitIn given ≡ circuitOf (read .content .counts) (read .content .words)
   unfolding circuitIn

@@ -7,42 +7,42 @@ use borrow.Author.Tests.{le-leb, lt-leb, leb-true}
 use Rattle.three.specs.Record.{bytesFor}
 use Rattle.circuit.specs.declared.Counts.{Counts}
 use Rattle.circuit.specs.Refusal.{Test, refusal}
-use Rattle.circuit.specs.Table.{ceilingTests, circuitTests}
+use Rattle.circuit.specs.Table.{boardTests}
 use Rattle.circuit.specs.RulesInCode.{Legal}
-use Rattle.circuit.proofs.Refusals.{Numbered, stops, past, none, passes, passed-append, refuses-whole, append-past}
-use Rattle.circuit.proofs.Legality.{circuit-numbered, legal-passed}
+use Rattle.circuit.proofs.Refusals.{stops, past, none, passes, none-append, refuses-whole, none-past}
+use Rattle.circuit.proofs.Legality.{board-numbered, board-legal}
 use Rattle.cubes.specs.Call.{runTests, runResultTests}
 
 module _ (c : Counts) (table : List ℕ) (w n v s : ℕ) where
   abbrev number : ℕ
   number = refusal (runTests c table w n v s)
 
-  pub circuit-refuses : (k : ℕ) → k ≡ refusal (circuitTests c table) → (k ≡ 0 → ⊥) → k ≡ number
+  pub board-refuses : (k : ℕ) → k ≡ refusal (boardTests c table) → (k ≡ 0 → ⊥) → k ≡ number
   unfolding runTests
-  circuit-refuses = refuses-whole (circuitTests c table) _
+  board-refuses = refuses-whole (boardTests c table) _
 
-  module _ (ok : 0 ≡ refusal (circuitTests c table)) where
-    past-circuit : (ts : List Test) {k : ℕ} → k ≡ refusal ts → k ≡ refusal (circuitTests c table ++ ts)
-    past-circuit ts = append-past (circuitTests c table) ts (passes (circuitTests c table) (circuit-numbered c table) ok)
+  module _ (ok : 0 ≡ refusal (boardTests c table)) where
+    past-board : (ts : List Test) {k : ℕ} → k ≡ refusal ts → k ≡ refusal (boardTests c table ++ ts)
+    past-board ts = none-past (boardTests c table) ts (board-numbered c table) ok
 
     pub interval-over : 1000 < w → 12 ≡ number
     unfolding runTests
-    interval-over h = past-circuit _ (stops _ _ (lt-leb w 1000 h))
+    interval-over h = past-board _ (stops _ _ (lt-leb w 1000 h))
 
     module _ (lw : w ≤ 1000) where
       pub cubes-short : n < bytesFor (c .latches) → 13 ≡ number
       unfolding runTests
-      cubes-short h = past-circuit _ (past _ _ (le-leb w 1000 lw) (stops _ _ (lt-leb (bytesFor (c .latches)) n h)))
+      cubes-short h = past-board _ (past _ _ (le-leb w 1000 lw) (stops _ _ (lt-leb (bytesFor (c .latches)) n h)))
 
       module _ (ln : bytesFor (c .latches) ≤ n) where
         pub cubes-over : 65536 < n → 13 ≡ number
         unfolding runTests
-        cubes-over h = past-circuit _ (past _ _ (le-leb w 1000 lw) (past _ _ (le-leb (bytesFor (c .latches)) n ln) (stops _ _ (lt-leb n 65536 h))))
+        cubes-over h = past-board _ (past _ _ (le-leb w 1000 lw) (past _ _ (le-leb (bytesFor (c .latches)) n ln) (stops _ _ (lt-leb n 65536 h))))
 
         module _ (mn : n ≤ 65536) where
           past-cubes : {k : ℕ} → k ≡ refusal (runResultTests c v s) → k ≡ number
           unfolding runTests runResultTests
-          past-cubes e = past-circuit _ (past _ _ (le-leb w 1000 lw) (past _ _ (le-leb (bytesFor (c .latches)) n ln) (past _ _ (le-leb n 65536 mn) e)))
+          past-cubes e = past-board _ (past _ _ (le-leb w 1000 lw) (past _ _ (le-leb (bytesFor (c .latches)) n ln) (past _ _ (le-leb n 65536 mn) e)))
 
           pub verdict-short : v < bytesFor (c .lamps) → 10 ≡ number
           unfolding runResultTests
@@ -65,20 +65,16 @@ module _ (c : Counts) (table : List ℕ) (w n v s : ℕ) where
     pub verdict-fits : bytesFor (c .lamps) ≤ v
     pub settled-fits : bytesFor (c .latches) ≤ s
 
-  numbered : Numbered (runTests c table w n v s)
-  unfolding runTests circuitTests ceilingTests runResultTests
-  numbered = omega arith
-
   pub accepted-run : 0 ≡ number → Accepted
   unfolding runTests runResultTests
   accepted-run e =
-      let p = passed-append (circuitTests c table) _ (passes (runTests c table w n v s) numbered e) in
-      let q = p .1 in
+      let p = none-append (boardTests c table) _ (board-numbered c table) e in
+      let q = passes _ (omega arith) (p .1) in
       record {
-        legal = legal-passed c table (p .0);
-        interval = leb-true w 1000 (q .0);
-        one = leb-true (bytesFor (c .latches)) n (q .1 .0);
-        small = leb-true n 65536 (q .1 .1 .0);
-        verdict-fits = leb-true (bytesFor (c .lamps)) v (q .1 .1 .1 .0);
-        settled-fits = leb-true (bytesFor (c .latches)) s (q .1 .1 .1 .1 .0);
+        legal = board-legal c table (p .0);
+        interval = omega (arith, leb-true);
+        one = omega (arith, leb-true);
+        small = omega (arith, leb-true);
+        verdict-fits = omega (arith, leb-true);
+        settled-fits = omega (arith, leb-true);
       }

@@ -24,7 +24,7 @@ fn run_refusal(
 ) -> u32
     ensures { λ r. ⌜ r ≡ refusal (runTests counts (now (table .entry)) w cubes verdict settled) ⌝ }
 {
-    let refused = table::circuit_refusal(counts, table);
+    let refused = table::board_refusal(counts, table);
     if refused != 0 {
         return refused;
     }

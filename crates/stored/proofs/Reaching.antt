@@ -1,37 +1,27 @@
 -- A working table with all switches X serves pass after pass: each gives the circuit's values for the state that was loaded. Assumes nothing.
-use mathlib.Core.Path.{_≡_, refl, sym, ap, _∙_}
-use mathlib.Core.List.{List, [], _∷_, _++_, map, append-assoc}
-use Prim.Native.Nat.{ℕ, zero, suc, _+_, _*_, _-_, _≤_}
+use mathlib.Core.Path.{_≡_, sym, ap, _∙_}
+use mathlib.Core.List.{List, _∷_, _++_}
+use Prim.Native.Nat.{ℕ, suc, _+_, _*_, _-_, _≤_}
 use native.Mathlib.Numerals.{one-add}
 use native.Mathlib.Omega.{arith}
-use lib.ListN.{length, getD, set, take, drop, replicate, length-drop, length-replicate, length-append, List·getD-append}
-use lib.Seq.{paste, take-all, take-append-seam, take-take}
+use lib.ListN.{length, getD, take, drop, replicate, length-drop, length-replicate, length-append, List·getD-append}
+use lib.Seq.{paste, take-all, take-take}
 use Rattle.three.specs.Lists.{over}
-use Rattle.three.specs.Value.{Three, unknown, low, decode, ternary}
+use Rattle.three.specs.Value.{Three, unknown, low, ternary}
 use Rattle.three.specs.Cube.{Cube}
 use Rattle.three.specs.Record.{bytesFor, pack}
 use Rattle.three.proofs.Lists.{tabulate-ext}
 use Rattle.three.proofs.Pack.{length-pack}
 use Rattle.circuit.specs.declared.Counts.{Counts}
-use Rattle.circuit.specs.Circuit.{Circuit, Gate, pass, settle}
+use Rattle.circuit.specs.Circuit.{Circuit, pass, settle}
 use Rattle.circuit.specs.Table.{circuitOf}
 use Rattle.circuit.specs.RulesInCode.{Legal}
-use Rattle.pass.specs.ValuesInCode.{valuesOf, Holding, Begins, literalValues}
+use Rattle.circuit.proofs.Pass.{length-pass, pass-front}
+use Rattle.pass.specs.ValuesInCode.{valuesOf, Begins, literalValues}
 use Rattle.pass.proofs.Settling.{next-stored, lamps-stored}
 use Rattle.pass.proofs.Values.{length-literals}
 use Rattle.cubes.specs.Run.{switchesUnknown, nextCube, lampsIn}
 use Rattle.stored.specs.CubesInCode.{keptByte, keptBytes, SwitchesX}
-
--- a pass leaves what it starts from
-pass-front : (vs ws : List Three) (gs : List Gate) → take (length vs) (pass ternary (vs ++ ws) gs) ≡ vs
-unfolding pass
-pass-front vs ws [] = take-append-seam vs ws
-pass-front vs ws (g ∷ gs) = rw append-assoc (pass-front vs _ gs)
-
-pass-longer : (vs ws : List Three) (gs : List Gate) → length vs ≤ length (pass ternary (vs ++ ws) gs)
-unfolding pass
-pass-longer vs ws [] = omega (arith, length-append vs ws)
-pass-longer vs ws (g ∷ gs) = rw append-assoc (pass-longer vs _ gs)
 
 module _ (c : Counts) (words : List ℕ) where
   -- the constant and all switches X
@@ -53,35 +43,11 @@ module _ (c : Counts) (words : List ℕ) where
   ready-again t state b = record {
     working = b .working;
     same =
-        sym (take-take (length front) _ (valuesOf t) (pass-longer front state (circuitOf c words .gates)))
+        let long : length front ≤ length (pass ternary (front ++ state) (circuitOf c words .gates)) = rw (length-pass, length-append) (omega arith) in
+        sym (take-take (length front) _ (valuesOf t) long)
         ∙ ap (take (length front)) (b .same)
-        ∙ pass-front front state (circuitOf c words .gates);
+        ∙ pass-front ternary front state (circuitOf c words .gates);
   }
-
--- ---- a new working table with the constant put
-
-zeros-unknown : (n : ℕ) → map decode (replicate n 0) ≡ replicate n unknown
-unfolding decode
-zeros-unknown zero = refl
-zeros-unknown (suc n) = ap (λ l. unknown ∷ l) (zeros-unknown n)
-
-take-replicate : (m n : ℕ) → m ≤ n → take m (replicate n unknown) ≡ replicate m unknown
-take-replicate zero n h = refl
-take-replicate (suc m) zero h = absurd (omega arith)
-take-replicate (suc m) (suc n) h = ap (λ l. unknown ∷ l) (take-replicate m n (omega arith))
-
-front-taken : (m n : ℕ) → m ≤ n → take (suc m) (set (map decode (replicate (suc n) 0)) 0 low) ≡ low ∷ replicate m unknown
-front-taken m n h = ap (λ (l : List Three). low ∷ l) (ap (take m) (zeros-unknown n) ∙ take-replicate m n h)
-
-pub fresh-ready : (c : Counts) (t : List ℕ) → c .inputs ≤ 256 → Holding t (set (valuesOf (replicate 4096 0)) 0 (decode 1)) → SwitchesX c t
-unfolding valuesOf decode
-fresh-ready c t h put = record {
-  working = put .working;
-  same =
-      ap (λ (n : ℕ). take (suc n) (valuesOf t)) (length-replicate (c .inputs) unknown)
-      ∙ ap (take (suc (c .inputs))) (put .same)
-      ∙ front-taken (c .inputs) 4095 (omega arith);
-}
 
 -- ---- the part of a buffer from a byte on, and the next state that is stored from a pass
 

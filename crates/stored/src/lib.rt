@@ -1,5 +1,6 @@
 // Cubes in a buffer: cube 0, the next state of a stored cube, the search (document 01, Run).
 use circuit::Counts;
+use pass::Values;
 ghost use mathlib.Core.Path.{_≡_};
 ghost use Prim.Native.Nat.{_+_, _*_, _-_, _<_, _≤_};
 ghost use lib.ListN.{length, getD, drop};
@@ -72,7 +73,7 @@ pub fn reach(
     cubes: &[u8],
     at: usize,
     held: [u8; 128],
-    values: &mut [u8; 4096],
+    values: &mut Values,
     b: &mut [u8; 128],
 )
     requires { ⌜ Legal counts (now table) × (at ≤ length (now cubes)) × IsRecord (counts .latches) (drop at (now cubes)) × SwitchesX counts (now values) × (length (now b) ≡ 128) ⌝ }

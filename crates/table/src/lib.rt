@@ -9,7 +9,7 @@ ghost use Prim.Native.Nat.{_+_, _*_, _<_, _≤_};
 ghost use lib.ListN.{length};
 ghost use Rattle.three.specs.Lists.{every};
 ghost use Rattle.circuit.specs.Refusal.{allHold, refusal};
-ghost use Rattle.circuit.specs.Table.{top, tableLength, kinds, tableTests, circuitTests};
+ghost use Rattle.circuit.specs.Table.{top, tableLength, kinds, tableTests, ceilingTests, wordTests, circuitTests, boardTests};
 ghost use Rattle.circuit.specs.RulesInCode.{latchKept, lampKept, gateKept, Bounded};
 
 fn latch_kept(table: &[u16], at: usize, most: u16) -> bool
@@ -96,9 +96,9 @@ fn rules_kept(counts: Counts, table: &[u16]) -> bool
     gates_kept(table, lamps + counts.lamps, counts.gates, own)
 }
 
-// The refusals of every call that is given a circuit, in order: 3, 10 for the table, 11; 0 for none.
-pub fn circuit_refusal(counts: Counts, table: &[u16]) -> u32
-    ensures { λ r. ⌜ r ≡ refusal (circuitTests counts (now (table .entry))) ⌝ }
+// 3 for counts over a ceiling; 0 for none.
+pub fn ceiling_refusal(counts: Counts) -> u32
+    ensures { λ r. ⌜ r ≡ refusal (ceilingTests counts) ⌝ }
 {
     if counts.inputs > MOST_INPUTS {
         return 3;
@@ -112,6 +112,14 @@ pub fn circuit_refusal(counts: Counts, table: &[u16]) -> u32
     if counts.gates > MOST_GATES {
         return 3;
     }
+    0
+}
+
+// The refusals of a table's words, in order: 10 for the table, 11; 0 for none.
+pub fn word_refusal(counts: Counts, table: &[u16]) -> u32
+    requires { ⌜ Bounded counts ⌝ }
+    ensures { λ r. ⌜ r ≡ refusal (wordTests counts (now (table .entry))) ⌝ }
+{
     if table.len() < table_length(counts) {
         return 10;
     }
@@ -119,4 +127,26 @@ pub fn circuit_refusal(counts: Counts, table: &[u16]) -> u32
         return 11;
     }
     0
+}
+
+// The refusals of a circuit that is written, or read for a tick, in order; 0 for none.
+pub fn circuit_refusal(counts: Counts, table: &[u16]) -> u32
+    ensures { λ r. ⌜ r ≡ refusal (circuitTests counts (now (table .entry))) ⌝ }
+{
+    let refused = ceiling_refusal(counts);
+    if refused != 0 {
+        return refused;
+    }
+    word_refusal(counts, table)
+}
+
+// The refusals of a circuit that is run, in order; 0 for none.
+pub fn board_refusal(counts: Counts, table: &[u16]) -> u32
+    ensures { λ r. ⌜ r ≡ refusal (boardTests counts (now (table .entry))) ⌝ }
+{
+    let refused = ceiling_refusal(counts);
+    if refused != 0 {
+        return refused;
+    }
+    word_refusal(counts, table)
 }

@@ -1,20 +1,19 @@
 -- From what is decided, in the order of the refusals, to the contracts of the two calls. Assumes nothing.
 use mathlib.Core.Path.{_≡_, refl, sym, ap, _∙_}
 use mathlib.Core.List.{List, []}
-use Prim.Native.Nat.{ℕ, zero, suc, _≤_, _<_}
-use native.Mathlib.Omega.{arith}
+use Prim.Native.Nat.{ℕ, suc, _≤_, _<_}
 use borrow.Author.Tests.{le-leb, lt-leb}
 use lib.ListN.{length}
 use Rattle.three.specs.Lists.{over}
 use Rattle.circuit.specs.declared.Counts.{Counts}
 use Rattle.circuit.specs.Refusal.{refusal, leftBy as afterwards}
 use Rattle.circuit.specs.Table.{tableLength, circuitTests}
-use Rattle.circuit.proofs.Refusals.{append-past, stops, past, none, refusal-append}
+use Rattle.circuit.proofs.Refusals.{none-past, none-append, stops, past, none, refusal-append}
 use Rattle.text.specs.Outcome.{accepted, refused, numberOf, further, leaves}
 use Rattle.text.specs.Text.{writeText, Content, readText}
 use Rattle.text.specs.Calls.{readInto, zeros, Reading, writeTests, Writing}
 use Rattle.text.proofs.Outcomes.{tested-stops, tested-past}
-use Rattle.text.proofs.Tables.{circuit-passed}
+use Rattle.circuit.proofs.Legality.{circuit-numbered}
 
 -- ---- the reader
 
@@ -49,18 +48,15 @@ module _ (c : Counts) (table buffer : List ℕ) where
   module _ (legal : 0 ≡ refusal (circuitTests c table)) where
     pub write-short : length buffer < length (writeText c table) → 10 ≡ refusal (writeTests c table buffer)
     unfolding writeTests
-    write-short h = append-past (circuitTests c table) _ (circuit-passed c table legal) (stops _ [] (lt-leb _ _ h))
+    write-short h = none-past (circuitTests c table) _ (circuit-numbered c table) legal (stops _ [] (lt-leb _ _ h))
 
     pub write-fits : length (writeText c table) ≤ length buffer → 0 ≡ refusal (writeTests c table buffer)
     unfolding writeTests
-    write-fits h = append-past (circuitTests c table) _ (circuit-passed c table legal) (past _ [] (le-leb _ _ h) none)
+    write-fits h = none-past (circuitTests c table) _ (circuit-numbered c table) legal (past _ [] (le-leb _ _ h) none)
 
   pub write-legal : 0 ≡ refusal (writeTests c table buffer) → 0 ≡ refusal (circuitTests c table)
-  write-legal e = go (refusal (circuitTests c table)) refl
-    where
-      go : (k : ℕ) → refusal (circuitTests c table) ≡ k → 0 ≡ k
-      go zero h = refl
-      go (suc k) h = absurd (omega (arith, write-stops h))
+  unfolding writeTests
+  write-legal e = none-append (circuitTests c table) _ (circuit-numbered c table) e .0
 
   pub writing-refused : {k : ℕ} → suc k ≡ refusal (writeTests c table buffer) → Writing c table buffer (suc k) 0 buffer
   unfolding afterwards

@@ -8,9 +8,8 @@ use borrow.Author.Tests.{leb-true, ltb-true}
 use lib.ListN.{length, length-append, drop, getD}
 use Rattle.circuit.specs.declared.Counts.{Counts}
 use Rattle.circuit.specs.Refusal.{refusal, allHold, Passed}
-use Rattle.circuit.specs.Table.{variables, top, ceilingTests, Kind, input, latch, lamp, gate, several, kinds, width, rowTests, tableTests}
+use Rattle.circuit.specs.Table.{variables, top, ceilingTests, Kind, input, latch, lamp, gate, several, kinds, width, rowTests, tableTests, wordTests, circuitTests}
 use Rattle.circuit.specs.RulesInCode.{Bounded}
-use Rattle.circuit.specs.Table.{circuitTests}
 use Rattle.text.specs.Decimal.{digits, decimal}
 use Rattle.text.specs.Line.{lineText}
 use Rattle.text.specs.Text.{shown, numbers, headNumbers, writeBody, writeText}
@@ -112,5 +111,5 @@ pub longestTable : List ℕ
 longestTable = longestWords (kinds ceiling)
 
 pub bound-reached : (0 ≡ refusal (circuitTests ceiling longestTable)) × (length (writeText ceiling longestTable) ≡ 57122)
-unfolding refusal circuitTests ceilingTests allHold tableTests rowTests width ceiling kinds several longest longestWords longestTable writeText headNumbers writeBody numbers shown lineText decimal digits
+unfolding refusal circuitTests ceilingTests wordTests allHold tableTests rowTests width ceiling kinds several longest longestWords longestTable writeText headNumbers writeBody numbers shown lineText decimal digits
 bound-reached = (refl, refl)

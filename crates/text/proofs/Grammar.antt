@@ -14,19 +14,19 @@ use Rattle.three.specs.Lists.{tabulate}
 use Rattle.three.proofs.Lists.{and-parts, by-test, tabulate-getD}
 use Rattle.circuit.specs.declared.Counts.{Counts}
 use Rattle.circuit.specs.Refusal.{refusal, Passed}
-use Rattle.circuit.specs.Table.{variables, top, tableLength, Kind, input, latch, lamp, gate, kinds, width, rowTests, tableTests}
+use Rattle.circuit.specs.Table.{variables, top, tableLength, Kind, input, latch, lamp, gate, kinds, width, rowTests, tableTests, circuitTests}
 use Rattle.circuit.specs.RulesInCode.{Bounded}
-use Rattle.circuit.specs.Table.{circuitTests}
 use Rattle.text.specs.Part.{got, ill}
 use Rattle.text.specs.Line.{lineText, strip}
 use Rattle.text.specs.Outcome.{accepted, onward}
 use Rattle.text.specs.Text.{magic, headNumbers, fits, owns, words, lineTests, comment, ends, readBody, header, countsOf, headerTests, Content, readText}
 use Rattle.text.proofs.Parts.{by-part}
-use Rattle.circuit.proofs.Refusals.{passed-append}
-use Rattle.text.proofs.Outcomes.{append-passed, passed-refusal}
+use Rattle.circuit.proofs.Refusals.{passed-append, passed-refusal}
+use Rattle.text.proofs.Outcomes.{append-passed}
 use Rattle.text.proofs.Lines.{front-strip, Short, line-split, split-line}
 use Rattle.text.proofs.Steps.{end-fits, end-accepted, line-fits, LineRead, line-accepted, header-fits, header-accepted}
-use Rattle.text.proofs.Tables.{size, size-kinds, due, Owned, owned-kinds, passed-bounded, bounded-passed, Taken, taken, taken-refusal}
+use Rattle.text.proofs.Tables.{size, size-kinds, due, Owned, owned-kinds, Taken, taken, taken-refusal}
+use Rattle.circuit.proofs.Legality.{passed-bounded, bounded-passed}
 
 -- A line's kind, its words in front of the words ws, and its numbers; a reset of 0 may be absent
 pub data Spelled (ws : List ℕ) : Kind → List ℕ → List ℕ → Type 0 where

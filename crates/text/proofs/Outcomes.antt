@@ -6,7 +6,7 @@ use Prim.Native.Nat.{ℕ, zero, suc}
 use native.Mathlib.Omega.{arith}
 use Rattle.three.proofs.Lists.{and-parts}
 use Rattle.circuit.specs.Refusal.{Test, refusal, allHold, Passed}
-use Rattle.circuit.proofs.Refusals.{Numbered, past, none, passes}
+use Rattle.circuit.proofs.Refusals.{Numbered, passes}
 use Rattle.text.specs.Outcome.{Outcome, accepted, refused, numberOf, after, tested, onward}
 
 -- ---- tests as facts
@@ -24,10 +24,6 @@ passed-hold (t ∷ ts) p = rw (p .0) (passed-hold ts (p .1))
 pub append-passed : (ss ts : List Test) → Passed ss → Passed ts → Passed (ss ++ ts)
 append-passed [] ts p q = q
 append-passed (s ∷ ss) ts p q = (p .0, append-passed ss ts (p .1) q)
-
-pub passed-refusal : (ts : List Test) → Passed ts → 0 ≡ refusal ts
-passed-refusal [] p = none
-passed-refusal (t ∷ ts) p = past t ts (p .0) (passed-refusal ts (p .1))
 
 -- ---- outcomes behind tests
 

@@ -4,14 +4,13 @@ use mathlib.Core.List.{List, [], _∷_}
 use Prim.Native.Nat.{ℕ, zero, suc, _+_, _*_, _-_, _≤_, _<_}
 use native.Mathlib.Nat.{add-zero, sub-zero, zero-mul, suc-mul}
 use native.Mathlib.Omega.{arith}
-use borrow.Author.Tests.{leb-true, le-leb}
 use lib.ListN.{length}
 use Rattle.circuit.specs.declared.Counts.{Counts}
 use Rattle.circuit.specs.Refusal.{refusal, Passed}
-use Rattle.circuit.specs.Table.{top, ceilingTests, tableLength, Kind, input, latch, lamp, gate, several, kinds, width, tableTests}
+use Rattle.circuit.specs.Table.{top, ceilingTests, tableLength, Kind, input, latch, lamp, gate, several, kinds, width, tableTests, circuitTests}
 use Rattle.circuit.specs.RulesInCode.{Bounded}
-use Rattle.circuit.specs.Table.{circuitTests}
-use Rattle.circuit.proofs.Refusals.{passes, circuit-passes}
+use Rattle.circuit.proofs.Refusals.{append-past}
+use Rattle.circuit.proofs.Legality.{bounded-passed, circuit-blocks, words-kept, words-pass}
 use Rattle.text.proofs.Outcomes.{hold-passed, passed-hold}
 
 -- ---- how many words
@@ -82,33 +81,19 @@ owned-kinds c =
 
 -- ---- what 3, 10 and 11 refuse
 
-pub passed-bounded : (c : Counts) → Passed (ceilingTests c) → Bounded c
-unfolding ceilingTests
-passed-bounded c p = omega (arith, leb-true)
-
-pub bounded-passed : (c : Counts) → Bounded c → Passed (ceilingTests c)
-unfolding ceilingTests
-bounded-passed c b = (le-leb _ _ (b .inputs), (le-leb _ _ (b .latches), (le-leb _ _ (b .lamps), (le-leb _ _ (b .gates), tt))))
-
 -- A circuit that they do not refuse
 pub record Taken (c : Counts) (table : List ℕ) : Type 0 where
   pub bounded : Bounded c
   pub long : tableLength c ≤ length table
   pub rules : Passed (tableTests (top c) (kinds c) table)
 
-pub circuit-passed : (c : Counts) (table : List ℕ) → 0 ≡ refusal (circuitTests c table) → Passed (circuitTests c table)
-unfolding circuitTests ceilingTests
-circuit-passed c table e = passes (circuitTests c table) (omega arith) e
-
 pub taken : (c : Counts) (table : List ℕ) → 0 ≡ refusal (circuitTests c table) → Taken c table
-unfolding circuitTests ceilingTests
 taken c table e =
-    let p = circuit-passed c table e in
-    record {
-      bounded = omega (arith, leb-true);
-      long = omega (arith, leb-true);
-      rules = hold-passed (tableTests (top c) (kinds c) table) (p .1 .1 .1 .1 .1 .0);
-    }
+    let p = circuit-blocks c table e in
+    let kept = words-kept c table (p .1) in
+    record { bounded = p .0; long = kept .0; rules = hold-passed (tableTests (top c) (kinds c) table) (kept .1) }
 
 pub taken-refusal : {c : Counts} {table : List ℕ} → Taken c table → 0 ≡ refusal (circuitTests c table)
-taken-refusal {c} {table} t = circuit-passes c table (t .bounded) (t .long) (passed-hold (tableTests (top c) (kinds c) table) (t .rules))
+unfolding circuitTests
+taken-refusal {c} {table} t =
+    append-past (ceilingTests c) _ (bounded-passed c (t .bounded)) (words-pass c table (t .long) (passed-hold (tableTests (top c) (kinds c) table) (t .rules)))

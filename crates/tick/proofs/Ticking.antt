@@ -11,12 +11,12 @@ use Rattle.three.specs.Lists.{over}
 use Rattle.three.specs.Record.{bytesFor, pack, sound, IsRecord}
 use Rattle.circuit.specs.declared.Counts.{Counts}
 use Rattle.circuit.specs.Circuit.{next, lamps}
-use Rattle.circuit.specs.Refusal.{Test, _or_, refusal, Passed}
-use Rattle.circuit.specs.Table.{ceilingTests, circuitTests}
+use Rattle.circuit.specs.Refusal.{Test, _or_, refusal}
+use Rattle.circuit.specs.Table.{circuitTests}
 use Rattle.circuit.specs.RulesInCode.{Legal}
 use Rattle.tick.specs.Tick.{recordTests, tickResultTests, TickGiven, tickTests, nextFields, lampFields, Ticked}
-use Rattle.circuit.proofs.Refusals.{Numbered, stops, past, none, passes, passed-append, refuses-whole, append-past, refused-old, accepted-new}
-use Rattle.circuit.proofs.Legality.{circuit-numbered, legal-passed}
+use Rattle.circuit.proofs.Refusals.{Numbered, stops, past, none, passes, none-append, refuses-whole, none-past, refused-old, accepted-new}
+use Rattle.circuit.proofs.Legality.{circuit-numbered, legal}
 
 -- ---- records that are not refused
 
@@ -49,9 +49,9 @@ module _ (c : Counts) (state switches : List ℕ) where
   unfolding recordTests
   record-numbered = omega arith
 
-  given-records : Passed (recordTests c state switches) → IsRecord (c .latches) state × IsRecord (c .inputs) switches
+  given-records : 0 ≡ refusal (recordTests c state switches) → IsRecord (c .latches) state × IsRecord (c .inputs) switches
   unfolding recordTests
-  given-records p = (
+  given-records e = let p = passes (recordTests c state switches) record-numbered e in (
     record { fits = leb-true (bytesFor (c .latches)) (length state) (p .0); good = p .1 .1 .0 },
     record { fits = leb-true (bytesFor (c .inputs)) (length switches) (p .1 .0); good = p .1 .1 .1 .0 },
   )
@@ -68,7 +68,7 @@ module _ (c : Counts) (table state switches : List ℕ) (n l : ℕ) where
 
   module _ (circuit-passes : 0 ≡ refusal (circuitTests c table)) where
     past-circuit : (ts : List Test) {k : ℕ} → k ≡ refusal ts → k ≡ refusal (circuitTests c table ++ ts)
-    past-circuit ts = append-past (circuitTests c table) ts (passes (circuitTests c table) (circuit-numbered c table) circuit-passes)
+    past-circuit ts = none-past (circuitTests c table) ts (circuit-numbered c table) circuit-passes
 
     pub records-refuse : (k : ℕ) → k ≡ refusal (recordTests c state switches) → (k ≡ 0 → ⊥) → k ≡ number
     unfolding tickTests
@@ -76,7 +76,7 @@ module _ (c : Counts) (table state switches : List ℕ) (n l : ℕ) where
 
     module _ (records-pass : 0 ≡ refusal (recordTests c state switches)) where
       past-records : (ts : List Test) {k : ℕ} → k ≡ refusal ts → k ≡ refusal (circuitTests c table ++ (recordTests c state switches ++ ts))
-      past-records ts e = past-circuit _ (append-past (recordTests c state switches) ts (passes (recordTests c state switches) (record-numbered c state switches) records-pass) e)
+      past-records ts e = past-circuit _ (none-past (recordTests c state switches) ts (record-numbered c state switches) records-pass e)
 
       pub next-short : n < bytesFor (c .latches) → 10 ≡ number
       unfolding tickTests tickResultTests
@@ -98,23 +98,18 @@ module _ (c : Counts) (table state switches : List ℕ) (n l : ℕ) where
     pub next-fits : bytesFor (c .latches) ≤ n
     pub lamps-fit : bytesFor (c .lamps) ≤ l
 
-  tick-numbered : Numbered (tickTests c table state switches n l)
-  unfolding tickTests circuitTests ceilingTests recordTests tickResultTests
-  tick-numbered = omega arith
+  results-fit : 0 ≡ refusal (tickResultTests c n l) → (bytesFor (c .latches) ≤ n) × (bytesFor (c .lamps) ≤ l)
+  unfolding tickResultTests
+  results-fit e = let p = passes (tickResultTests c n l) (omega arith) e in (leb-true (bytesFor (c .latches)) n (p .0), leb-true (bytesFor (c .lamps)) l (p .1 .0))
 
   pub accepted-tick : 0 ≡ number → Accepted
-  unfolding tickTests tickResultTests
+  unfolding tickTests
   accepted-tick e =
-      let p = passed-append (circuitTests c table) _ (passes (tickTests c table state switches n l) tick-numbered e) in
-      let q = passed-append (recordTests c state switches) _ (p .1) in
+      let p = none-append (circuitTests c table) _ (circuit-numbered c table) e in
+      let q = none-append (recordTests c state switches) _ (record-numbered c state switches) (p .1) in
       let given = given-records c state switches (q .0) in
-      record {
-        legal-circuit = legal-passed c table (p .0);
-        given-state = given .0;
-        given-switches = given .1;
-        next-fits = leb-true (bytesFor (c .latches)) n (q .1 .0);
-        lamps-fit = leb-true (bytesFor (c .lamps)) l (q .1 .1 .0);
-      }
+      let fit = results-fit (q .1) in
+      record { legal-circuit = legal c table (p .0); given-state = given .0; given-switches = given .1; next-fits = fit .0; lamps-fit = fit .1 }
 
 -- ---- what the tick leaves
 

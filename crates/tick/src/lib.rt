@@ -71,7 +71,7 @@ fn tick_into(
     requires { ⌜ Legal counts (now table) × IsRecord (counts .latches) (now state) × IsRecord (counts .inputs) (now switches) × (bytesFor (counts .latches) ≤ length (now next)) × (bytesFor (counts .lamps) ≤ length (now lamps)) ⌝ }
     ensures { λ _. ⌜ (now (next .exit) ≡ over (pack (nextFields counts (now (table .entry)) (now (state .entry)) (now (switches .entry)))) (now (next .entry))) × (now (lamps .exit) ≡ over (pack (lampFields counts (now (table .entry)) (now (state .entry)) (now (switches .entry)))) (now (lamps .entry))) ⌝ }
 {
-    let mut values = [0u8; 4096];
+    let mut values = pass::fresh_values();
     pass::settle(counts, table, state, switches, &mut values);
     pass::store(&values, table, 0, 2, counts.latches, next);
     pass::store(&values, table, 2 * counts.latches, 1, counts.lamps, lamps);

@@ -9,13 +9,13 @@ use Rattle.three.specs.Cube.{knownFields}
 use Rattle.three.specs.Record.{bytesFor}
 use Rattle.circuit.specs.declared.Counts.{Counts}
 use Rattle.circuit.specs.Refusal.{Test, _or_, refusal, leftBy}
-use Rattle.circuit.specs.Table.{circuitOf, circuitTests}
-use Rattle.circuit.proofs.Refusals.{append-past}
-use Rattle.text.proofs.Tables.{circuit-passed}
+use Rattle.circuit.specs.Table.{circuitOf, boardTests}
+use Rattle.circuit.proofs.Refusals.{none-past}
 use Rattle.cubes.specs.declared.RunAnswer.{RunAnswer}
 use Rattle.cubes.specs.Run.{run}
 use Rattle.cubes.specs.Call.{roomIn, runResultTests, runTests, RunGiven, refusedBy, circuitIn, outcomeIn, cubesIn, backIn, verdictFields, settledFields, Runs}
 use Rattle.witness.specs.Answer.{Answer, answerFrom, answerIn, Sized, zeroed}
+use Rattle.circuit.proofs.Legality.{board-numbered}
 
 -- ---- the contract, as values
 
@@ -62,10 +62,10 @@ abbrev restTests : Counts → ℕ → ℕ → ℕ → ℕ → List Test
 restTests c w cubes verdict settled =
     leb w 1000 or 12 ∷ leb (bytesFor (c .latches)) cubes or 13 ∷ leb cubes 65536 or 13 ∷ runResultTests c verdict settled
 
-rest-decides : (g : RunGiven) → 0 ≡ refusal (circuitTests (g .counts) (g .table))
+rest-decides : (g : RunGiven) → 0 ≡ refusal (boardTests (g .counts) (g .table))
     → refusedBy g ≡ refusal (restTests (g .counts) (g .w) (length (g .cubes)) (length (g .verdict)) (length (g .settled)))
 unfolding refusedBy runTests
-rest-decides g legal = sym (append-past (circuitTests (g .counts) (g .table)) _ (circuit-passed (g .counts) (g .table) legal) refl)
+rest-decides g legal = sym (none-past (boardTests (g .counts) (g .table)) _ (board-numbered (g .counts) (g .table)) legal refl)
 
 -- the buffers' lengths
 pub answer-zeroed : (size : ℕ) (g : RunGiven) → Sized size g → answerIn g ≡ answerIn (zeroed (g .counts) (g .table) (g .w) size)
@@ -79,7 +79,7 @@ answer-zeroed size g sized =
     (λ i. long i / bytesFor (g .counts .latches))
 
 -- and of two tables that 3, 10 and 11 do not refuse the circuit alone
-pub answer-tables : (c : Counts) (table table′ : List ℕ) (w size : ℕ) → 0 ≡ refusal (circuitTests c table) → 0 ≡ refusal (circuitTests c table′)
+pub answer-tables : (c : Counts) (table table′ : List ℕ) (w size : ℕ) → 0 ≡ refusal (boardTests c table) → 0 ≡ refusal (boardTests c table′)
     → circuitOf c table ≡ circuitOf c table′ → answerIn (zeroed c table w size) ≡ answerIn (zeroed c table′ w size)
 unfolding circuitIn
 answer-tables c table table′ w size legal legal′ circuit =

@@ -2,9 +2,8 @@
 use mathlib.Core.Path.{_≡_, refl, sym, _∙_}
 use Prim.Native.Nat.{_-_, _≤_}
 use lib.ListN.{length}
-use Rattle.pass.proofs.Settling.{fresh}
+use Rattle.pass.proofs.Values.{fresh-begins}
 use Rattle.stored.specs.CubesInCode.{SwitchesX}
-use Rattle.stored.proofs.Reaching.{fresh-ready}
 use Rattle.judge.proofs.Judging.{Judged, first-cube, few-lamps, lamps-fit, lamp-place, judged-first, judged-record, judged-length, lamps-record, lamps-length, judged-next, judged-last}
 use native.Mathlib.Omega.{arith}
 use Rattle.judge.proofs.judge_lamps.Statement.{statement}
@@ -16,19 +15,19 @@ Inv-loop counts table cubes len n verdict₀ values₀ lamps₀ k₀ verdict val
 abbrev μ-loop : tie.MeasureT-loop
 μ-loop counts table cubes len n verdict₀ values₀ lamps₀ k₀ verdict values lamps k = n - k
 
-put-variable-requires : tie.Need-put-variable-requires Inv-loop μ-loop
-put-variable-requires c κs = (omega arith, omega arith, fresh)
+fresh-values-requires : tie.Need-fresh-values-requires Inv-loop μ-loop
+fresh-values-requires c κs = tt
 
 lamps-at-requires : tie.Need-lamps-at-requires Inv-loop μ-loop
 lamps-at-requires c κs =
-    let start = c .before .before .before .before .before .before .before in
+    let start = c .before .before .before .before .before .before in
     let pre = start .pre in
     let entry = start .args .verdict .now in
-    (pre .0 .legal, omega arith, first-cube _ _ _ _ _ (pre .0) entry (pre .1), fresh-ready (start .args .counts) _ (pre .0 .legal .bounded .inputs) (c .before .before .put-variable .ensures), pre .1)
+    (pre .0 .legal, omega arith, first-cube _ _ _ _ _ (pre .0) entry (pre .1), fresh-begins _ (start .args .counts .inputs) (omega (arith, pre .0 .legal .bounded .inputs)) (c .before .before .fresh-values .ensures), pre .1)
 
 loop-holds : tie.Need-loop-holds Inv-loop μ-loop
 loop-holds c =
-    let start = c .before .before .before .before .before .before .before .before .before .before in
+    let start = c .before .before .before .before .before .before .before .before .before in
     let pre = start .pre in
     let entry = start .args .verdict .now in
     let lit = c .before .before .lamps-at .ensures in
@@ -37,7 +36,7 @@ loop-holds c =
 mul-lamps-at : tie.Need-mul-lamps-at Inv-loop μ-loop
 mul-lamps-at c =
     let at = c .before in
-    let start = at .before .before .before .before .before .before .before .before .before .before .before in
+    let start = at .before .before .before .before .before .before .before .before .before .before in
     let pre = start .pre in
     let entry = start .args .verdict .now in
     let inv = at .loop .inv in
@@ -50,7 +49,7 @@ slice-aggregate-lamps-at c = sym (c .before .before .before .loop .inv .2)
 lamps-at-requires-2 : tie.Need-lamps-at-requires-2 Inv-loop μ-loop
 lamps-at-requires-2 c κs =
     let at = c .before .before .before in
-    let start = at .before .before .before .before .before .before .before .before .before .before .before in
+    let start = at .before .before .before .before .before .before .before .before .before .before in
     let pre = start .pre in
     let entry = start .args .verdict .now in
     let inv = at .loop .inv in
@@ -61,7 +60,7 @@ lamps-at-requires-2 c κs =
 slice-aggregate-agree : tie.Need-slice-aggregate-agree Inv-loop μ-loop
 slice-aggregate-agree c =
     let at = c .before .before .before .before .before .before .before in
-    let start = at .before .before .before .before .before .before .before .before .before .before .before in
+    let start = at .before .before .before .before .before .before .before .before .before .before in
     let pre = start .pre in
     let entry = start .args .verdict .now in
     let inv = at .loop .inv in
@@ -71,7 +70,7 @@ slice-aggregate-agree c =
 agree-requires : tie.Need-agree-requires Inv-loop μ-loop
 agree-requires c κs =
     let at = c .before .before .before .before .before .before .before in
-    let start = at .before .before .before .before .before .before .before .before .before .before .before in
+    let start = at .before .before .before .before .before .before .before .before .before .before in
     let pre = start .pre in
     let entry = start .args .verdict .now in
     let inv = at .loop .inv in
@@ -87,7 +86,7 @@ loop-less c = omega arith
 loop-again : tie.Need-loop-again Inv-loop μ-loop
 loop-again c =
     let at = c .before .before .before .before .before .before .before .before .before .before in
-    let start = at .before .before .before .before .before .before .before .before .before .before .before in
+    let start = at .before .before .before .before .before .before .before .before .before .before in
     let pre = start .pre in
     let entry = start .args .verdict .now in
     let inv = at .loop .inv in
@@ -99,7 +98,7 @@ loop-again c =
 same-length : tie.Need-same-length Inv-loop μ-loop
 same-length c =
     let at = c .before in
-    let start = at .before .before .before .before .before .before .before .before .before .before .before in
+    let start = at .before .before .before .before .before .before .before .before .before .before in
     let pre = start .pre in
     let entry = start .args .verdict .now in
     let inv = at .loop .inv in
@@ -109,7 +108,7 @@ same-length c =
 returns : tie.Need-returns Inv-loop μ-loop
 returns c =
     let at = c .before in
-    let start = at .before .before .before .before .before .before .before .before .before .before .before in
+    let start = at .before .before .before .before .before .before .before .before .before .before in
     let pre = start .pre in
     let entry = start .args .verdict .now in
     let inv = at .loop .inv in
@@ -122,7 +121,7 @@ judge-lamps-spec =
     (tie.spec
     Inv-loop
     μ-loop
-    put-variable-requires
+    fresh-values-requires
     lamps-at-requires
     loop-holds
     mul-lamps-at

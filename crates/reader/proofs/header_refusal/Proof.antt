@@ -1,6 +1,8 @@
 -- `reader::header_refusal` meets its contract: its tests are made in the order of the document, and those after the first all have the number 3. Assumes nothing.
+use mathlib.Core.Path.{sym, _∙_}
 use native.Mathlib.Omega.{arith}
-use Rattle.reader.proofs.Judging.{header-count, header-inputs, header-latches, header-lamps, header-gates, header-sum, header-passes}
+use Rattle.circuit.proofs.Legality.{bounded}
+use Rattle.reader.proofs.Judging.{header-count, header-over, header-sum, header-passes}
 use borrow.Author.Needs.{needs}
 use Rattle.reader.proofs.header_refusal.Statement.{statement}
 use Rattle.reader.proofs.header_refusal.Tie as tie
@@ -11,32 +13,26 @@ returns c = header-count _ (omega arith) (λ e. omega arith)
 counts-of-requires : tie.Need-counts-of-requires
 counts-of-requires c κs = search needs
 
+ceiling-refusal-requires : tie.Need-ceiling-refusal-requires
+ceiling-refusal-requires c κs = search needs
+
 returns-2 : tie.Need-returns-2
-returns-2 c = header-inputs _ (omega arith) (omega arith) (c .before .before .counts-of .ensures) (omega arith)
-
-returns-3 : tie.Need-returns-3
-returns-3 c = header-latches _ (omega arith) (omega arith) (c .before .before .before .before .counts-of .ensures) (omega arith) (omega arith)
-
-returns-4 : tie.Need-returns-4
-returns-4 c = header-lamps _ (omega arith) (omega arith) (c .before .before .before .before .before .before .counts-of .ensures) (omega arith) (omega arith) (omega arith)
-
-returns-5 : tie.Need-returns-5
-returns-5 c = header-gates _ (omega arith) (omega arith) (c .before .before .before .before .before .before .before .before .counts-of .ensures) (omega arith) (omega arith) (omega arith) (omega arith)
+returns-2 c = header-over _ (omega arith) (omega arith) (c .before .before .counts-of .ensures) (c .before .ceiling-refusal .ensures) (c .if2 .taken)
 
 entry-requires : tie.Need-entry-requires
 entry-requires c κs = search needs
 
-add-if6 : tie.Need-add-if6
-add-if6 c = search needs
+add-if3 : tie.Need-add-if3
+add-if3 c = omega (arith, bounded _ (sym (c .before .before .if2 .left) ∙ c .before .before .before .ceiling-refusal .ensures))
 
-add-if6-2 : tie.Need-add-if6-2
-add-if6-2 c = search needs
+add-if3-2 : tie.Need-add-if3-2
+add-if3-2 c = omega (arith, bounded _ (sym (c .before .before .before .if2 .left) ∙ c .before .before .before .before .ceiling-refusal .ensures))
 
-returns-6 : tie.Need-returns-6
-returns-6 c = header-sum _ (omega arith) (omega arith) (c .before .before .before .before .before .before .before .before .before .before .before .before .counts-of .ensures) (c .before .before .before .entry .ensures) (c .if6 .taken)
+returns-3 : tie.Need-returns-3
+returns-3 c = header-sum _ (omega arith) (omega arith) (c .before .before .before .before .before .before .counts-of .ensures) (c .before .before .before .entry .ensures) (c .if3 .taken)
 
-returns-7 : tie.Need-returns-7
-returns-7 c = header-passes _ (omega arith) (omega arith) (c .before .before .before .before .before .before .before .before .before .before .before .before .counts-of .ensures) (c .before .before .before .entry .ensures) (omega arith) (c .if6 .left)
+returns-4 : tie.Need-returns-4
+returns-4 c = header-passes _ (omega arith) (omega arith) (c .before .before .before .before .before .before .counts-of .ensures) (c .before .before .before .entry .ensures) (c .before .before .before .before .before .ceiling-refusal .ensures) (c .before .before .before .before .if2 .left) (c .if3 .left)
 
 pub header-refusal-spec : {M : Type 1} → statement M
 header-refusal-spec =
@@ -44,12 +40,10 @@ header-refusal-spec =
     (tie.spec
     returns
     counts-of-requires
+    ceiling-refusal-requires
     returns-2
-    returns-3
-    returns-4
-    returns-5
     entry-requires
-    add-if6
-    add-if6-2
-    returns-6
-    returns-7)
+    add-if3
+    add-if3-2
+    returns-3
+    returns-4)
