@@ -5,7 +5,7 @@ use Rattle.three.specs.Lists.{Each}
 use Rattle.three.specs.Value.{Three, code, both, inverse, ternary}
 use Rattle.three.specs.Cube.{Cube, alike, allows}
 use Rattle.three.proofs.Lists.{each-self}
-use Rattle.three.proofs.Merge.{atEach, of-two, allows-self}
+use Rattle.three.proofs.Fields.{atEach, of-two, allows-self}
 use Rattle.three.proofs.Subsuming.{Wider}
 use Rattle.circuit.specs.Circuit.{Circuit, next}
 use Rattle.circuit.proofs.Sound.{Keeps, next-keeps}

@@ -12,7 +12,7 @@ use Rattle.three.specs.Lists.{adjust, Each, empty, also}
 use Rattle.three.specs.Value.{Three, code}
 use Rattle.three.specs.Cube.{Cube, alike, allows, blank}
 use Rattle.three.proofs.Lists.{length-adjust, each-self, each-adjust}
-use Rattle.three.proofs.Merge.{of-two, allows-self}
+use Rattle.three.proofs.Fields.{of-two, allows-self}
 use Rattle.three.proofs.Subsuming.{Wider}
 use Rattle.circuit.specs.Circuit.{Circuit}
 use Rattle.circuit.proofs.Narrow.{next-wider}

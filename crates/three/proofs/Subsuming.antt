@@ -8,7 +8,7 @@ use native.Mathlib.Omega.{arith}
 use Rattle.three.specs.Lists.{Each, empty, also}
 use Rattle.three.specs.Value.{Three, unknown, low, high, code}
 use Rattle.three.specs.Cube.{Cube, alike, allows, subsumes, knownFields}
-use Rattle.three.proofs.Merge.{alike-same}
+use Rattle.three.proofs.Fields.{alike-same}
 use Rattle.three.proofs.Counting.{count, known-cons}
 
 -- a field is X, or the other
