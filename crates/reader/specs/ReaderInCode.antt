@@ -10,9 +10,10 @@ use Rattle.circuit.specs.Table.{top, Kind, latch, lamp, gate, several, kinds}
 use Rattle.circuit.specs.RulesInCode.{Bounded}
 use Rattle.reader.specs.declared.Judged.{Judged}
 use Rattle.reader.specs.declared.Judgement.{Judgement}
+use Rattle.reader.specs.declared.Judgement.the-variants.{Refused, Body}
 use Rattle.text.specs.Part.{got, ill}
 use Rattle.text.specs.Line.{strip}
-use Rattle.text.specs.Outcome.{Outcome, accepted, after, onward, leaves}
+use Rattle.text.specs.Outcome.{Outcome, accepted, refused, after, onward, leaves}
 use Rattle.text.specs.Text.{magic, readBody, readText}
 use Rattle.lines.specs.LinesInCode.{from}
 
@@ -35,16 +36,21 @@ pub record LinesJudged (text : List ℕ) (at most : ℕ) (lines : List Kind → 
   pub says : (ks : List Kind) → bare (readBody most (lines ks) (from text at)) ≡ after (j .number) (bare (readBody most ks (from text (j .next))))
   pub within : j .next ≤ length text
 
--- The first line is as it should be, and the body starts at `at`
+-- the words that lines of a text are read as
+unfoldable pub bodyWords : Counts → List Kind → List ℕ → List ℕ
+bodyWords c ks t = leaves (λ ws. ws) [] (readBody (top c) ks t)
+
+-- The first line is as it should be, and the body, which nothing refuses, starts at `at`
 pub record BodyAt (text : List ℕ) (c : Counts) (at : ℕ) : Type 0 where
   pub bounded : Bounded c
   pub within : at ≤ length text
   pub on : readText text ≡ onward (λ ws. record { counts = c; words = ws }) (readBody (top c) (kinds c) (from text at))
+  pub accepts : readBody (top c) (kinds c) (from text at) ≡ accepted (bodyWords c (kinds c) (from text at))
 
 -- A text judged
-pub record TextJudged (text : List ℕ) (j : Judgement) : Type 0 where
-  pub says : bare (readText text) ≡ answer (j .number)
-  pub starts : j .number ≡ 0 → BodyAt text (j .counts) (j .body)
+abbrev pub TextJudged : List ℕ → Judgement → Type 0
+TextJudged text (Refused n) = readText text ≡ refused n
+TextJudged text (Body c at) = BodyAt text c at
 
 -- ---- the second pass
 
@@ -56,10 +62,6 @@ pairOf ns = getD ns 1 0 ∷ getD ns 2 0 ∷ []
 pub record WordsFit (ws : List ℕ) (p : ℕ) (table : List ℕ) : Type 0 where
   pub small : (i : ℕ) → getD ws i 0 < 65536
   pub room : p + length ws ≤ length table
-
--- the words that lines of a text are read as
-unfoldable pub bodyWords : Counts → List Kind → List ℕ → List ℕ
-bodyWords c ks t = leaves (λ ws. ws) [] (readBody (top c) ks t)
 
 -- the lines from the first gate, from the first lamp and from the first latch on
 abbrev pub gatesOn : Counts → List Kind

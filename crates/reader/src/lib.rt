@@ -264,11 +264,10 @@ fn judge_body(text: &[u8], at: usize, counts: Counts) -> u32
     0
 }
 
-// The first refusal of 1 to 9, 0 for none; and where it is 0 what the first line says, and where the body starts.
-struct Judgement {
-    number: u32,
-    counts: Counts,
-    body: usize,
+// The first refusal of 1 to 9; or what the first line says, and where a body starts that nothing refuses.
+enum Judgement {
+    Refused(u32),
+    Body(Counts, usize),
 }
 
 // "Reader: 1, 2, 3, then line by line (4, 5, 6, then 7 or 8), 9": once over the text, and nothing is written.
@@ -276,33 +275,19 @@ fn judge(text: &[u8]) -> Judgement
     ensures { λ r. ⌜ TextJudged (now (text .entry)) r ⌝ }
 {
     if text.len() > MOST_TEXT {
-        return Judgement {
-            number: 1,
-            counts: Counts {
-                inputs: 0,
-                latches: 0,
-                lamps: 0,
-                gates: 0,
-            },
-            body: 0,
-        };
+        return Judgement::Refused(1);
     }
     let first = header(text);
+    let in_header = header_refusal(first);
+    if in_header != 0 {
+        return Judgement::Refused(in_header);
+    }
     let counts = counts_of(first);
-    let body = first.next;
-    let number = header_refusal(first);
-    if number != 0 {
-        return Judgement {
-            number: number,
-            counts: counts,
-            body: body,
-        };
+    let in_body = judge_body(text, first.next, counts);
+    if in_body != 0 {
+        return Judgement::Refused(in_body);
     }
-    Judgement {
-        number: judge_body(text, body, counts),
-        counts: counts,
-        body: body,
-    }
+    Judgement::Body(counts, first.next)
 }
 
 // The second and the third number of a line, stored from word p on.
@@ -408,16 +393,19 @@ pub fn read(text: &[u8], table: &mut [u16]) -> ReadAnswer
     ensures { λ r. ⌜ Reading (now (text .entry)) (now (table .entry)) (r .number) (r .counts) (now (table .exit)) ⌝ }
 {
     let judgement = judge(text);
-    if judgement.number != 0 {
-        return refused(judgement.number);
-    }
-    let counts = judgement.counts;
-    if table.len() < table::table_length(counts) {
-        return refused(10);
-    }
-    fill(text, judgement.body, counts, table);
-    ReadAnswer {
-        number: 0,
-        counts: counts,
+    match judgement {
+        Judgement::Refused(number) => {
+            return refused(number);
+        }
+        Judgement::Body(counts, body) => {
+            if table.len() < table::table_length(counts) {
+                return refused(10);
+            }
+            fill(text, body, counts, table);
+            return ReadAnswer {
+                number: 0,
+                counts: counts,
+            };
+        }
     }
 }
