@@ -1,5 +1,6 @@
 -- From the two passes to the contract of the reader. Assumes nothing.
 use mathlib.Core.Path.{_≡_, refl, sym, _∙_, ap, subst}
+use mathlib.Core.Bool.{Bool, true, false}
 use mathlib.Core.List.{List, []}
 use Prim.Native.Nat.{ℕ, zero, suc, _≤_, _<_}
 use native.Mathlib.Omega.{arith}
@@ -10,31 +11,28 @@ use Rattle.three.specs.Lists.{over}
 use Rattle.three.proofs.Lists.{by-test}
 use Rattle.circuit.specs.declared.Counts.{Counts}
 use Rattle.circuit.specs.Refusal.{refusal}
-use Rattle.circuit.specs.Table.{top, ceilingTests, tableLength, Kind, kinds}
+use Rattle.circuit.specs.Table.{top, ceilingTests, tableLength, kinds}
 use Rattle.circuit.specs.RulesInCode.{Bounded}
 use Rattle.text.specs.Part.{got}
-use Rattle.text.specs.Outcome.{accepted, refused, onward, leaves}
-use Rattle.text.specs.Text.{readBody, header, countsOf, headerTests, readText}
+use Rattle.text.specs.Outcome.{accepted, refused, after, onward, leaves}
+use Rattle.text.specs.Text.{lineTests, ends, Lines, readLines, thenEnds, header, countsOf, headerTests, readText}
 use Rattle.text.specs.Calls.{zeros, Reading}
 use Rattle.lines.specs.declared.ReadLine.{ReadLine}
+use Rattle.reader.specs.declared.Judged.{Judged}
 use Rattle.reader.specs.declared.Judgement.{Judgement}
 use Rattle.reader.specs.declared.Judgement.the-variants.{Refused, Body}
 use Rattle.lines.specs.LinesInCode.{from, numbersOf, LineFound}
-use Rattle.reader.specs.ReaderInCode.{bare, answer, BodyAt, TextJudged, bodyWords, stand, Fillable}
+use Rattle.reader.specs.ReaderInCode.{left, LinesJudged, kindsThen, linesOf, BodyAt, TextJudged, bodyWords, stand, Fillable}
 use Rattle.circuit.proofs.Refusals.{passes}
+use Rattle.text.proofs.Outcomes.{accepted-same}
 use Rattle.text.proofs.Tables.{passed-bounded}
-use Rattle.text.proofs.Steps.{text-long, header-ill, header-stops, header-fits}
+use Rattle.text.proofs.Steps.{lines-stop, end-stops, end-fits, text-long, header-ill, header-stops, header-fits}
 use Rattle.text.proofs.Grammar.{describes}
 use Rattle.text.proofs.Answers.{read-stops, read-short, read-fits, reading-refused, reading-accepted}
 use Rattle.reader.proofs.Judging.{header-count}
-use Rattle.reader.proofs.Bodies.{line-got, line-ill-formed, verdict-onward, refused-verdict, accepted-verdict, after-refused, after-none}
+use Rattle.reader.proofs.Bodies.{line-got, line-ill-formed, refused-left, accepted-left, after-refused, after-none}
 
 -- ---- the first pass
-
--- a body that nothing refuses is read as its words
-body-accepted : (c : Counts) (ks : List Kind) (t : List ℕ) → bare (readBody (top c) ks t) ≡ accepted tt → readBody (top c) ks t ≡ accepted (bodyWords c ks t)
-unfolding bodyWords leaves
-body-accepted c ks t v = let a = accepted-verdict _ v in a .1 ∙ ap accepted (sym (ap (leaves (λ ws. ws) []) (a .1)))
 
 module _ (text : List ℕ) where
   pub judged-long : 60000 < length text → TextJudged text (Refused 1)
@@ -62,15 +60,36 @@ module _ (text : List ℕ) where
       unfolding headerTests ceilingTests
       judged-bounded = rw k (passed-bounded _ (passes (headerTests (numbersOf l)) (omega arith) (sym h ∙ e) .1 .1))
 
-      goes-on : readText text ≡ onward (λ ws. record { counts = c; words = ws }) (readBody (top c) (kinds c) (from text (l .next)))
+      goes-on : readText text ≡ onward (λ l. record { counts = c; words = l .words }) (thenEnds (readLines (lineTests (top c)) (kinds c) (from text (l .next))))
       goes-on = rw k (header-fits text short header-five (sym h ∙ e))
 
-      module _ {m : ℕ} (v : bare (readBody (top c) (kinds c) (from text (l .next))) ≡ answer m) where
-        pub judged-stops : (m ≡ 0 → ⊥) → TextJudged text (Refused m)
-        judged-stops z = refused-verdict _ (ap bare goes-on ∙ verdict-onward _ _ ∙ v ∙ after-refused _ _ z)
+      module _ {j : Judged} (v : LinesJudged text (l .next) (lineTests (top c)) (kindsThen c) j) where
+        body-left : left (readLines (lineTests (top c)) (kinds c) (from text (l .next))) ≡ after (j .number) (accepted (from text (j .next)))
+        unfolding kinds readLines left onward
+        body-left = v .says []
 
-        pub judged-body : m ≡ 0 → TextJudged text (Body c (l .next))
-        judged-body z = record { bounded = judged-bounded; within = f .within; on = goes-on; accepts = body-accepted c (kinds c) _ (v ∙ after-none _ z) }
+        stopped : {m : ℕ} → thenEnds (readLines (lineTests (top c)) (kinds c) (from text (l .next))) ≡ refused m → TextJudged text (Refused m)
+        unfolding onward
+        stopped q = goes-on ∙ rw q
+
+        pub judged-stops : (j .number ≡ 0 → ⊥) → TextJudged text (Refused (j .number))
+        judged-stops z = stopped (lines-stop (refused-left _ (body-left ∙ after-refused _ _ z)))
+
+        module _ (z : j .number ≡ 0) {b : Bool} (d : b ≡ ends (from text (j .next))) where
+          accepts : readLines (lineTests (top c)) (kinds c) (from text (l .next)) ≡ accepted (linesOf c (kinds c) (from text (l .next)))
+          unfolding linesOf leaves
+          accepts = let a = accepted-left _ (body-left ∙ after-none _ z) in a .1 ∙ ap accepted (sym (ap (leaves (λ (l : Lines). l) _) (a .1)))
+
+          behind : b ≡ ends (linesOf c (kinds c) (from text (l .next)) .rest)
+          unfolding left onward
+          behind = d ∙ ap ends (sym (accepted-same (sym (ap left accepts) ∙ body-left ∙ after-none _ z)))
+
+          pub judged-open : b ≡ false → TextJudged text (Refused 9)
+          judged-open f = stopped (end-stops accepts (sym behind ∙ f))
+
+          pub judged-body : b ≡ true → TextJudged text (Body c (l .next))
+          unfolding onward
+          judged-body t = record { bounded = judged-bounded; within = f .within; accepts = accepts; reads = goes-on ∙ rw (end-fits accepts (sym behind ∙ t)) }
 
 -- ---- the reader
 
@@ -85,16 +104,12 @@ module _ (text table : List ℕ) {j : Judgement} (t : TextJudged text j) where
     here : BodyAt text c at
     here = starts text t e
 
-    text-accepted : readText text ≡ accepted (record { counts = c; words = bodyWords c (kinds c) (from text at) })
-    unfolding onward
-    text-accepted = here .on ∙ rw (here .accepts)
-
     pub answers-short : {n : ℕ} {z : Counts} → n ≡ 10 → z ≡ zeros → length table < tableLength c → Reading text table n z table
-    answers-short q k s = rw (q, k) (reading-refused text table (read-short text table text-accepted s))
+    answers-short q k s = rw (q, k) (reading-refused text table (read-short text table (here .reads) s))
 
     module _ (s : tableLength c ≤ length table) where
       pub fillable : Fillable text c (stand (kinds c) at 0 table)
-      fillable = record { bounded = here .bounded; within = here .within; accepts = here .accepts; room = omega (arith, describes text text-accepted .whole) }
+      fillable = record { bounded = here .bounded; within = here .within; accepts = here .accepts; room = omega (arith, describes text (here .reads) .whole) }
 
       pub answers-filled : {table′ : List ℕ} → table′ ≡ over (bodyWords c (kinds c) (from text at)) table → Reading text table 0 c table′
-      answers-filled q = rw q (reading-accepted text table (read-fits text table text-accepted s))
+      answers-filled q = rw q (reading-accepted text table (read-fits text table (here .reads) s))

@@ -8,9 +8,8 @@ use borrow.Author.Tests.{leb-true, ltb-true}
 use lib.ListN.{length, length-append, drop, getD}
 use Rattle.circuit.specs.declared.Counts.{Counts}
 use Rattle.circuit.specs.Refusal.{refusal, allHold, Passed}
-use Rattle.circuit.specs.Table.{variables, top, ceilingTests, Kind, input, latch, lamp, gate, several, kinds, width, rowTests, tableTests}
+use Rattle.circuit.specs.Table.{variables, top, ceilingTests, Kind, input, latch, lamp, gate, several, kinds, width, rowTests, tableTests, circuitTests}
 use Rattle.circuit.specs.RulesInCode.{Bounded}
-use Rattle.circuit.specs.Table.{circuitTests}
 use Rattle.text.specs.Decimal.{digits, decimal}
 use Rattle.text.specs.Line.{lineText}
 use Rattle.text.specs.Text.{shown, numbers, headNumbers, writeBody, writeText}

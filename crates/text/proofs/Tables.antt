@@ -8,9 +8,8 @@ use borrow.Author.Tests.{leb-true, le-leb}
 use lib.ListN.{length}
 use Rattle.circuit.specs.declared.Counts.{Counts}
 use Rattle.circuit.specs.Refusal.{refusal, Passed}
-use Rattle.circuit.specs.Table.{top, ceilingTests, tableLength, Kind, input, latch, lamp, gate, several, kinds, width, tableTests}
+use Rattle.circuit.specs.Table.{top, ceilingTests, tableLength, Kind, input, latch, lamp, gate, several, kinds, width, tableTests, circuitTests}
 use Rattle.circuit.specs.RulesInCode.{Bounded}
-use Rattle.circuit.specs.Table.{circuitTests}
 use Rattle.circuit.proofs.Refusals.{passes, circuit-passes}
 use Rattle.text.proofs.Outcomes.{hold-passed, passed-hold}
 

@@ -1,5 +1,6 @@
--- `reader::judge` meets its contract: the length, the first line, and then the body. Assumes nothing.
-use Rattle.reader.proofs.Answering.{judged-long, judged-header, judged-bounded, judged-stops, judged-body}
+-- `reader::judge` meets its contract: the length, the first line, the body, and then the end. Assumes nothing.
+use borrow.Author.Tests.{not-true, not-false}
+use Rattle.reader.proofs.Answering.{judged-long, judged-header, judged-bounded, judged-stops, judged-open, judged-body}
 use native.Mathlib.Omega.{arith}
 use borrow.Author.Needs.{needs}
 use Rattle.reader.proofs.judge.Statement.{statement}
@@ -27,15 +28,27 @@ judge-body-requires c κs =
 
 returns-3 : tie.Need-returns-3
 returns-3 c =
-    let counts = c .before .before in
+    let body = c .before .before in
+    let counts = body .before in
     let refusal = counts .before .before in
-    judged-stops _ (refusal .before .before .if1 .left) (refusal .before .header .ensures) (refusal .header-refusal .ensures) (counts .before .if2 .left) (counts .counts-of .ensures) (c .before .judge-body .ensures) (c .if3 .taken)
+    judged-stops _ (refusal .before .before .if1 .left) (refusal .before .header .ensures) (refusal .header-refusal .ensures) (counts .before .if2 .left) (counts .counts-of .ensures) (body .judge-body .ensures) (c .if3 .taken)
+
+ended-requires : tie.Need-ended-requires
+ended-requires c κs = search needs
 
 returns-4 : tie.Need-returns-4
 returns-4 c =
-    let counts = c .before .before in
+    let body = c .before .before .before .before in
+    let counts = body .before in
     let refusal = counts .before .before in
-    judged-body _ (refusal .before .before .if1 .left) (refusal .before .header .ensures) (refusal .header-refusal .ensures) (counts .before .if2 .left) (counts .counts-of .ensures) (c .before .judge-body .ensures) (c .if3 .left)
+    judged-open _ (refusal .before .before .if1 .left) (refusal .before .header .ensures) (refusal .header-refusal .ensures) (counts .before .if2 .left) (counts .counts-of .ensures) (body .judge-body .ensures) (c .before .before .if3 .left) (c .before .ended .ensures) (not-true _ (c .if4 .taken))
+
+returns-5 : tie.Need-returns-5
+returns-5 c =
+    let body = c .before .before .before .before in
+    let counts = body .before in
+    let refusal = counts .before .before in
+    judged-body _ (refusal .before .before .if1 .left) (refusal .before .header .ensures) (refusal .header-refusal .ensures) (counts .before .if2 .left) (counts .counts-of .ensures) (body .judge-body .ensures) (c .before .before .if3 .left) (c .before .ended .ensures) (not-false _ (c .if4 .left))
 
 pub judge-spec : {M : Type 1} → statement M
 judge-spec =
@@ -48,4 +61,6 @@ judge-spec =
     counts-of-requires
     judge-body-requires
     returns-3
-    returns-4)
+    ended-requires
+    returns-4
+    returns-5)
