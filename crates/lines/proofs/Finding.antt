@@ -10,7 +10,7 @@ use lib.ListN.{length, getD, set, take, length-set, length-take, List·getD-eq-d
 use lib.Seq.{take-suc-set, getD-take, length-take-le}
 use Rattle.text.specs.Part.{Part, got, ill}
 use Rattle.text.specs.Decimal.{readNumber}
-use Rattle.text.specs.Line.{strip, prepend, splitLine}
+use Rattle.text.specs.Line.{strip, prepend, splitLine, mostNumbers, readLine}
 use Rattle.lines.specs.declared.ReadLine.{ReadLine}
 use Rattle.lines.specs.declared.ReadNumber.{ReadNumber}
 use Rattle.lines.specs.declared.ReadNumber.the-variants.{Value, NoNumber}
@@ -75,30 +75,31 @@ unfolding prependAll prepend
 prependAll-prepend ns n (got ms r) = ap (λ l. got l r) (sym (append-assoc ns (n ∷ []) ms))
 prependAll-prepend ns n ill = refl
 
-module _ (text : List ℕ) (at most : ℕ) where
+module _ (text : List ℕ) (at : ℕ) where
   pub record Pieces (numbers : List ℕ) (next k : ℕ) : Type 0 where
-    pub few : k ≤ most
-    pub long : length numbers ≡ 5
+    pub few : k ≤ mostNumbers
+    pub long : length numbers ≡ mostNumbers
     pub within : next ≤ length text
-    pub same : splitLine most (from text at) ≡ prependAll (take k numbers) (splitLine (most - k) (from text next))
+    pub same : readLine (from text at) ≡ prependAll (take k numbers) (splitLine (mostNumbers - k) (from text next))
 
-  pub pieces-first : (numbers : List ℕ) → length numbers ≡ 5 → at ≤ length text → Pieces numbers at 0
+  pub pieces-first : (numbers : List ℕ) → length numbers ≡ mostNumbers → at ≤ length text → Pieces numbers at 0
   pieces-first numbers l h = record { few = omega arith; long = l; within = h; same = rw sub-zero (sym (prependAll-none _)) }
 
-  module _ (room : most ≤ 5) {numbers : List ℕ} {next k : ℕ} (s : Pieces numbers next k) where
-    pub pieces-end : at ≤ length text → most ≤ k → LineFound text (splitLine most (from text at)) (record { count = 0; numbers = numbers; next = at })
-    unfolding splitLine prependAll counted
-    pieces-end h e = record { reads = s .same ∙ let z : most - k ≡ 0 = omega arith in rw z; shape = record { few = omega arith; long = s .long }; within = h }
+  module _ {numbers : List ℕ} {next k : ℕ} (s : Pieces numbers next k) where
+    -- no number is the last
+    pub pieces-end : mostNumbers ≤ k → readLine (from text at) ≡ ill
+    unfolding splitLine prependAll
+    pieces-end e = s .same ∙ let z : mostNumbers - k ≡ 0 = omega arith in rw z
 
-    module _ (h : k < most) {n : InLine} (found : FoundInLine text (from text next) n) where
-      here : splitLine (most - k) (from text next) ≡ linePart text (most - (k + 1)) n
-      here = let z : most - k ≡ suc (most - (k + 1)) = omega arith in rw z (found .reads _)
+    module _ (h : k < mostNumbers) {n : InLine} (found : FoundInLine text (from text next) n) where
+      here : splitLine (mostNumbers - k) (from text next) ≡ linePart text (mostNumbers - (k + 1)) n
+      here = let z : mostNumbers - k ≡ suc (mostNumbers - (k + 1)) = omega arith in rw z (found .reads _)
 
-      pub pieces-ill : at ≤ length text → n ≡ NotInLine → LineFound text (splitLine most (from text at)) (record { count = 0; numbers = numbers; next = at })
-      unfolding linePart prependAll counted
-      pieces-ill a e = record { reads = s .same ∙ rw (here, e); shape = record { few = omega arith; long = s .long }; within = a }
+      pub pieces-ill : n ≡ NotInLine → readLine (from text at) ≡ ill
+      unfolding linePart prependAll
+      pieces-ill e = s .same ∙ rw (here, e)
 
-      pub pieces-last : {v end : ℕ} → n ≡ Last v end → LineFound text (splitLine most (from text at)) (record { count = k + 1; numbers = set numbers k v; next = end })
+      pub pieces-last : {v end : ℕ} → n ≡ Last v end → LineFound text (readLine (from text at)) (record { count = k + 1; numbers = set numbers k v; next = end })
       unfolding linePart lineEnd prependAll counted
       pieces-last {v} {end} e = record {
         reads = s .same ∙ rw (here, e, add-one, take-suc-set numbers k v (omega (arith, s .long)));
@@ -114,6 +115,11 @@ module _ (text : List ℕ) (at most : ℕ) where
         within = rw e at (found .within);
         same = s .same ∙ rw (here, e, add-one, take-suc-set numbers k v (omega (arith, s .long))) (prependAll-prepend _ _ _);
       }
+
+-- no line
+pub found-none : (text numbers : List ℕ) (at : ℕ) → length numbers ≡ mostNumbers → at ≤ length text → LineFound text ill (record { count = 0; numbers = numbers; next = at })
+unfolding counted
+found-none text numbers at l h = record { reads = refl; shape = record { few = omega arith; long = l }; within = h }
 
 -- ---- a line's numbers
 

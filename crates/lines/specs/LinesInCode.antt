@@ -11,7 +11,7 @@ use Rattle.lines.specs.declared.InLine.the-variants.{Last, More, NotInLi
 use Rattle.lines.specs.declared.ReadLine.{ReadLine}
 use Rattle.text.specs.Part.{Part, got, ill}
 use Rattle.text.specs.Decimal.{isDigit}
-use Rattle.text.specs.Line.{prepend, splitLine}
+use Rattle.text.specs.Line.{prepend, splitLine, mostNumbers}
 
 -- the text from a position on
 unfoldable pub from : List ℕ → ℕ → List ℕ
@@ -59,10 +59,10 @@ unfoldable pub counted : ℕ → List ℕ → List ℕ → Part (List ℕ)
 counted zero ns r = ill
 counted (suc n) ns r = got (take (suc n) ns) r
 
--- The array of a line has five places, of which the line takes so many
+-- The array of a line has a place for each number, of which the line takes so many
 pub record Shape (l : ReadLine) : Type 0 where
-  pub few : l .count ≤ 5
-  pub long : length (l .numbers) ≡ 5
+  pub few : l .count ≤ mostNumbers
+  pub long : length (l .numbers) ≡ mostNumbers
 
 -- the numbers of a line
 unfoldable pub numbersOf : ReadLine → List ℕ

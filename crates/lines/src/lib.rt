@@ -1,16 +1,11 @@
 // Numbers and lines of a text (document 01, Text).
-use circuit::Counts;
-use text::GATE_LINE;
-use text::INPUT_LINE;
-use text::LAMP_LINE;
-use text::LATCH_LINE;
-use text::MAGIC;
 ghost use mathlib.Core.Path.{_≡_};
-ghost use Prim.Native.Nat.{_≤_, _<_, _+_, _*_};
+ghost use mathlib.Core.List.{List};
+ghost use Prim.Native.Nat.{ℕ, _≤_, _<_};
 ghost use lib.ListN.{length, getD};
 ghost use Rattle.text.specs.Decimal.{mayGrow, readNumber};
-ghost use Rattle.text.specs.Line.{splitLine};
-ghost use Rattle.text.specs.Text.{ends};
+ghost use Rattle.text.specs.Line.{mostNumbers, readLine};
+ghost use Rattle.text.specs.Part.{ill};
 ghost use Rattle.lines.specs.LinesInCode.{from, leading, NumberFound, FoundInLine, numbersOf, LineFound};
 
 // A number at a position, and the position behind it.
@@ -26,10 +21,13 @@ pub enum InLine {
     NotInLine,
 }
 
-// The numbers of a line, none where it is ill-formed, and the position behind it. No line has more than the first, with five.
+// No line has more numbers than the first: M I L O A.
+const MOST_NUMBERS: usize = 5;
+
+// The numbers of a line, none where it is ill-formed, and the position behind it.
 pub struct ReadLine {
     pub count: usize,
-    pub numbers: [usize; 5],
+    pub numbers: [usize; MOST_NUMBERS],
     pub next: usize,
 }
 
@@ -101,13 +99,24 @@ fn number_in_line(text: &[u8], at: usize) -> InLine
     InLine::NotInLine
 }
 
-pub fn line(text: &[u8], at: usize, most: usize) -> ReadLine
-    requires { ⌜ (at ≤ length (now text)) × (most ≤ 5) ⌝ }
-    ensures { λ r. ⌜ LineFound (now (text .entry)) (splitLine most (from (now (text .entry)) at)) r ⌝ }
+// An ill-formed line, at a position of any text.
+pub fn no_line(at: usize) -> ReadLine
+    ensures { λ r. ⌜ ((text : List ℕ) → at ≤ length text → LineFound text ill r) ⌝ }
 {
-    let mut numbers = [0usize; 5];
+    ReadLine {
+        count: 0,
+        numbers: [0usize; MOST_NUMBERS],
+        next: at,
+    }
+}
+
+pub fn line(text: &[u8], at: usize) -> ReadLine
+    requires { ⌜ at ≤ length (now text) ⌝ }
+    ensures { λ r. ⌜ LineFound (now (text .entry)) (readLine (from (now (text .entry)) at)) r ⌝ }
+{
+    let mut numbers = [0usize; MOST_NUMBERS];
     let mut next = at;
-    for k in 0..most {
+    for k in 0..MOST_NUMBERS {
         let found = number_in_line(text, next);
         match found {
             InLine::Last(value, end) => {
@@ -123,24 +132,16 @@ pub fn line(text: &[u8], at: usize, most: usize) -> ReadLine
                 next = end;
             }
             InLine::NotInLine => {
-                return ReadLine {
-                    count: 0,
-                    numbers: numbers,
-                    next: at,
-                };
+                return no_line(at);
             }
         }
     }
-    ReadLine {
-        count: 0,
-        numbers: numbers,
-        next: at,
-    }
+    no_line(at)
 }
 
 // Number i of a line, and 0 where it is absent.
 pub fn entry(found: ReadLine, i: usize) -> usize
-    requires { ⌜ i < 5 ⌝ }
+    requires { ⌜ i < mostNumbers ⌝ }
     ensures { λ r. ⌜ r ≡ getD (numbersOf found) i 0 ⌝ }
 {
     if i >= found.count {

@@ -1,7 +1,7 @@
 -- The body, line by line: a line found, and the first pass over the lines, turn by turn. Assumes nothing.
 use mathlib.Core.Path.{_≡_, refl, sym, _∙_, ap}
-use mathlib.Core.Bool.{Bool, true, false}
-use mathlib.Core.List.{List, [], _∷_}
+use mathlib.Core.Bool.{false}
+use mathlib.Core.List.{List, _∷_}
 use Prim.Native.Nat.{ℕ, zero, suc, _+_, _*_, _-_, _≤_, _<_}
 use native.Mathlib.Nat.{not-suc-le-zero}
 use native.Mathlib.Omega.{arith}
@@ -9,20 +9,18 @@ use borrow.Author.Tests.{ltb-true, ltb-false, eqb-true, eqb-false, eq-eqb, ne-eq
 use lib.Dec.{ltb, eqb}
 use lib.ListN.{length, getD, take}
 use Rattle.three.proofs.Lists.{by-test}
-use Rattle.circuit.specs.declared.Counts.{Counts}
-use Rattle.circuit.specs.Table.{top, Kind, input, latch, lamp, gate, several, kinds}
-use Rattle.circuit.specs.Refusal.{refusal}
+use Rattle.circuit.specs.Table.{Kind, input, latch, lamp, gate, several}
+use Rattle.circuit.specs.Refusal.{Test, refusal}
 use Rattle.text.specs.Part.{Part, got, ill}
-use Rattle.text.specs.Line.{strip, splitLine}
+use Rattle.text.specs.Line.{strip, readLine}
 use Rattle.text.specs.Outcome.{Outcome, accepted, refused, after, onward}
-use Rattle.text.specs.Text.{fits, lineTests, ends, readBody}
+use Rattle.text.specs.Text.{fits, lineTests, ends, Lines, inFront, readLines}
 use Rattle.lines.specs.declared.ReadLine.{ReadLine}
 use Rattle.reader.specs.declared.Judged.{Judged}
 use Rattle.lines.specs.LinesInCode.{from, counted, numbersOf, LineFound}
-use Rattle.reader.specs.ReaderInCode.{bare, answer, LinesJudged, latchesOn, lampsOn, gatesOn}
-use Rattle.text.specs.KindsInCode.{coded}
-use Rattle.text.proofs.Outcomes.{refused-accepted}
-use Rattle.text.proofs.Steps.{end-stops, end-fits, line-ill, line-stops, line-fits}
+use Rattle.reader.specs.ReaderInCode.{left, LinesJudged}
+use Rattle.text.proofs.Outcomes.{accepted-same, refused-accepted}
+use Rattle.text.proofs.Steps.{line-ill, line-stops, line-fits}
 use Rattle.lines.proofs.Numbers.{from-end, from-byte}
 use Rattle.text.proofs.Tables.{linesFrom, lines-first, lines-next, lines-last}
 use Rattle.reader.proofs.Judging.{line-count}
@@ -47,26 +45,26 @@ line-read l f e = by-test (ltb 0 (l .count))
     (λ h. let g = line-got l f (ltb-true 0 (l .count) h) in (cc, cc))
     (λ h. let z : l .count ≡ 0 = omega (arith, ltb-false 0 (l .count) h) in let g = line-ill-formed l f z in absurd (let z : _≡_ {A = ℕ} 0 1 = cc in omega arith))
 
--- ---- verdicts
+-- ---- the text that lines leave
 
-pub verdict-onward : {A B : Type 0} (f : A → B) (o : Outcome A) → bare (onward f o) ≡ bare o
-unfolding bare onward
-verdict-onward f (accepted a) = refl
-verdict-onward f (refused n) = refl
+pub left-front : (ws : List ℕ) (o : Outcome Lines) → left (onward (inFront ws) o) ≡ left o
+unfolding left onward inFront
+left-front ws (accepted l) = refl
+left-front ws (refused n) = refl
 
-pub verdict-refused : {A : Type 0} {o : Outcome A} {n : ℕ} → o ≡ refused n → bare o ≡ refused n
-unfolding bare onward
-verdict-refused e = rw e
+pub left-refused : {o : Outcome Lines} {n : ℕ} → o ≡ refused n → left o ≡ refused n
+unfolding left onward
+left-refused e = rw e
 
-pub refused-verdict : {A : Type 0} (o : Outcome A) {n : ℕ} → bare o ≡ refused n → o ≡ refused n
-unfolding bare onward
-refused-verdict (accepted a) e = absurd (refused-accepted (sym e))
-refused-verdict (refused m) e = cc
+pub refused-left : (o : Outcome Lines) {n : ℕ} → left o ≡ refused n → o ≡ refused n
+unfolding left onward
+refused-left (accepted l) e = absurd (refused-accepted (sym e))
+refused-left (refused m) e = cc
 
-pub accepted-verdict : {A : Type 0} (o : Outcome A) → bare o ≡ accepted tt → (a : A) × (o ≡ accepted a)
-unfolding bare onward
-accepted-verdict (accepted a) e = (a, refl)
-accepted-verdict (refused n) e = absurd (refused-accepted e)
+pub accepted-left : (o : Outcome Lines) {r : List ℕ} → left o ≡ accepted r → (l : Lines) × (o ≡ accepted l) × (l .rest ≡ r)
+unfolding left onward
+accepted-left (accepted l) e = (l, refl, accepted-same e)
+accepted-left (refused n) e = absurd (refused-accepted e)
 
 pub after-refused : {A : Type 0} (n : ℕ) (o : Outcome A) → (n ≡ 0 → ⊥) → after n o ≡ refused n
 unfolding after
@@ -86,21 +84,21 @@ no-numbers (latch own) = refl
 no-numbers lamp = refl
 no-numbers (gate own) = refl
 
-pub line-judged : (text : List ℕ) (at most : ℕ) (k : Kind) (l : ReadLine) (n : ℕ) → LineFound text (splitLine 3 (from text at)) l → n ≡ refusal (lineTests most k (numbersOf l))
-    → LinesJudged text at most (λ ks. k ∷ ks) (record { number = n; next = l .next })
+pub line-judged : (text : List ℕ) (at most : ℕ) (k : Kind) (l : ReadLine) (n : ℕ) → LineFound text (readLine (from text at)) l → n ≡ refusal (lineTests most k (numbersOf l))
+    → LinesJudged text at (lineTests most) (λ ks. k ∷ ks) (record { number = n; next = l .next })
 line-judged text at most k l n f e = record {
   says = λ ks. by-test (ltb 0 (l .count))
       (λ h. on ks n e (line-got l f (ltb-true 0 (l .count) h)))
       (λ h. let z : l .count ≡ 0 = omega (arith, ltb-false 0 (l .count) h) in
       let four : n ≡ 4 = e ∙ sym (line-count most k l (f .shape) (rw (z, no-numbers k))) in
-      verdict-refused (line-ill most k ks _ (line-ill-formed l f z)) ∙ sym (after-refused n _ (λ q. omega arith) ∙ rw four));
+      left-refused (line-ill (lineTests most) k ks _ (line-ill-formed l f z)) ∙ sym (after-refused n _ (λ q. omega arith) ∙ rw four));
   within = f .within;
 }
   where
-    on : (ks : List Kind) (n : ℕ) → n ≡ refusal (lineTests most k (numbersOf l)) → splitLine 3 (from text at) ≡ got (numbersOf l) (from text (l .next))
-        → bare (readBody most (k ∷ ks) (from text at)) ≡ after n (bare (readBody most ks (from text (l .next))))
-    on ks zero h g = ap bare (line-fits most k ks _ g h) ∙ verdict-onward _ _ ∙ sym (after-none _ refl)
-    on ks (suc n) h g = verdict-refused (line-stops most k ks _ g h) ∙ sym (after-refused (suc n) _ (λ q. omega arith))
+    on : (ks : List Kind) (n : ℕ) → n ≡ refusal (lineTests most k (numbersOf l)) → readLine (from text at) ≡ got (numbersOf l) (from text (l .next))
+        → left (readLines (lineTests most) (k ∷ ks) (from text at)) ≡ after n (left (readLines (lineTests most) ks (from text (l .next))))
+    on ks zero h g = ap left (line-fits (lineTests most) k ks _ g h) ∙ left-front _ _ ∙ sym (after-none _ refl)
+    on ks (suc n) h g = left-refused (line-stops (lineTests most) k ks _ g h) ∙ sym (after-refused (suc n) _ (λ q. omega arith))
 
 -- ---- the first pass: the end of the text
 
@@ -128,90 +126,38 @@ module _ (text : List ℕ) (at : ℕ) where
 
 -- ---- the first pass: of n lines of one kind i are judged, and the next one stands at `next`
 
-module _ (text : List ℕ) (at most : ℕ) (kind : ℕ → Kind) (own n : ℕ) where
+module _ (text : List ℕ) (at : ℕ) (tests : Kind → List ℕ → List Test) (kind : ℕ → Kind) (own n : ℕ) where
   pub record Turns (next i : ℕ) : Type 0 where
     pub few : i ≤ n
     pub within : next ≤ length text
-    pub same : (ks : List Kind) → bare (readBody most (several kind own n ks) (from text at)) ≡ bare (readBody most (linesFrom kind own n ks i) (from text next))
+    pub same : (ks : List Kind) → left (readLines tests (several kind own n ks) (from text at)) ≡ left (readLines tests (linesFrom kind own n ks i) (from text next))
 
   pub turns-first : at ≤ length text → Turns at 0
-  turns-first h = record { few = omega arith; within = h; same = λ ks. ap (λ l. bare (readBody most l (from text at))) (lines-first kind own n ks) }
+  turns-first h = record { few = omega arith; within = h; same = λ ks. ap (λ l. left (readLines tests l (from text at))) (lines-first kind own n ks) }
 
   module _ {next i : ℕ} (s : Turns next i) where
-    module _ (h : i < n) {j : Judged} (f : LinesJudged text next most (λ ks. kind (own + 2 * i) ∷ ks) j) where
-      line-says : (ks : List Kind) → bare (readBody most (several kind own n ks) (from text at)) ≡ after (j .number) (bare (readBody most (linesFrom kind own n ks (i + 1)) (from text (j .next))))
+    module _ (h : i < n) {j : Judged} (f : LinesJudged text next tests (λ ks. kind (own + 2 * i) ∷ ks) j) where
+      line-says : (ks : List Kind) → left (readLines tests (several kind own n ks) (from text at)) ≡ after (j .number) (left (readLines tests (linesFrom kind own n ks (i + 1)) (from text (j .next))))
       line-says ks = s .same ks ∙ rw (lines-next kind own n ks i h) (f .says _)
 
-      pub turns-stop : (j .number ≡ 0 → ⊥) → LinesJudged text at most (several kind own n) j
+      pub turns-stop : (j .number ≡ 0 → ⊥) → LinesJudged text at tests (several kind own n) j
       turns-stop z = record { says = λ ks. line-says ks ∙ after-refused _ _ z ∙ sym (after-refused _ _ z); within = f .within }
 
       pub turns-next : j .number ≡ 0 → Turns (j .next) (i + 1)
       turns-next z = record { few = omega arith; within = f .within; same = λ ks. line-says ks ∙ after-none _ z }
 
-    pub turns-last : n ≤ i → LinesJudged text at most (several kind own n) (record { number = 0; next = next })
+    pub turns-last : n ≤ i → LinesJudged text at tests (several kind own n) (record { number = 0; next = next })
     turns-last h = record {
-      says = λ ks. s .same ks ∙ ap (λ l. bare (readBody most l (from text next))) (lines-last kind own n ks i h) ∙ sym (after-none _ refl);
+      says = λ ks. s .same ks ∙ ap (λ l. left (readLines tests l (from text next))) (lines-last kind own n ks i h) ∙ sym (after-none _ refl);
       within = s .within;
     }
 
--- ---- the first pass: the lines of each kind in turn, and then the end; the first refusal decides
+-- ---- the first pass: lines, and others behind them; the first refusal decides
 
-module _ {text : List ℕ} {at most : ℕ} {lines : List Kind → List Kind} {j : Judged} (a : LinesJudged text at most lines j) (ks : List Kind) where
-  judged-stop : (j .number ≡ 0 → ⊥) → bare (readBody most (lines ks) (from text at)) ≡ answer (j .number)
-  judged-stop z = a .says ks ∙ after-refused _ _ z ∙ sym (after-refused _ _ z)
+module _ {text : List ℕ} {at : ℕ} {tests : Kind → List ℕ → List Test} {lines : List Kind → List Kind} (others : List Kind → List Kind) {j : Judged}
+    (a : LinesJudged text at tests lines j) where
+  pub judged-stop : (j .number ≡ 0 → ⊥) → LinesJudged text at tests (λ ks. lines (others ks)) j
+  judged-stop z = record { says = λ ks. a .says _ ∙ after-refused _ _ z ∙ sym (after-refused _ _ z); within = a .within }
 
-  judged-on : j .number ≡ 0 → bare (readBody most (lines ks) (from text at)) ≡ bare (readBody most ks (from text (j .next)))
-  judged-on z = a .says ks ∙ after-none _ z
-
-module _ (text : List ℕ) (at : ℕ) (c : Counts) where
-  -- the lines left decide, from the position where they stand
-  abbrev Left : List Kind → ℕ → Type 0
-  Left ks next = bare (readBody (top c) (kinds c) (from text at)) ≡ bare (readBody (top c) ks (from text next))
-
-  abbrev Says : ℕ → Type 0
-  Says n = bare (readBody (top c) (kinds c) (from text at)) ≡ answer n
-
-  module _ {i : Judged} (inputs : LinesJudged text at (top c) (several (coded 0) 2 (c .inputs)) i) where
-    pub stop-inputs : (i .number ≡ 0 → ⊥) → Says (i .number)
-    unfolding kinds coded
-    stop-inputs = judged-stop inputs (latchesOn c)
-
-    module _ (y : i .number ≡ 0) {j : Judged} (latches : LinesJudged text (i .next) (top c) (several (coded 1) (2 + 2 * c .inputs) (c .latches)) j) where
-      to-latches : Left (latchesOn c) (i .next)
-      unfolding kinds coded
-      to-latches = judged-on inputs (latchesOn c) y
-
-      pub stop-latches : (j .number ≡ 0 → ⊥) → Says (j .number)
-      unfolding coded
-      stop-latches z = to-latches ∙ judged-stop latches (lampsOn c) z
-
-      module _ (x : j .number ≡ 0) {k : Judged} (lamps : LinesJudged text (j .next) (top c) (several (coded 2) 0 (c .lamps)) k) where
-        to-lamps : Left (lampsOn c) (j .next)
-        unfolding coded
-        to-lamps = to-latches ∙ judged-on latches (lampsOn c) x
-
-        pub stop-lamps : (k .number ≡ 0 → ⊥) → Says (k .number)
-        unfolding coded
-        stop-lamps z = to-lamps ∙ judged-stop lamps (gatesOn c) z
-
-        module _ (w : k .number ≡ 0) {l : Judged} (gates : LinesJudged text (k .next) (top c) (several (coded 3) (2 + 2 * c .inputs + 2 * c .latches) (c .gates)) l) where
-          to-gates : Left (gatesOn c) (k .next)
-          unfolding coded
-          to-gates = to-lamps ∙ judged-on lamps (gatesOn c) w
-
-          pub stop-gates : (l .number ≡ 0 → ⊥) → Says (l .number)
-          unfolding coded
-          stop-gates z = to-gates ∙ judged-stop gates [] z
-
-          module _ (v : l .number ≡ 0) {b : Bool} (e : b ≡ ends (from text (l .next))) where
-            to-end : Left [] (l .next)
-            unfolding coded
-            to-end = to-gates ∙ judged-on gates [] v
-
-            pub end-over : b ≡ false → Says 9
-            unfolding after
-            end-over f = to-end ∙ verdict-refused (end-stops (top c) _ (sym e ∙ f))
-
-            pub end-last : b ≡ true → Says 0
-            unfolding after bare onward
-            end-last f = to-end ∙ ap bare (end-fits (top c) (from text (l .next)) (sym e ∙ f))
+  pub judged-then : j .number ≡ 0 → {i : Judged} → LinesJudged text (j .next) tests others i → LinesJudged text at tests (λ ks. lines (others ks)) i
+  judged-then z b = record { says = λ ks. a .says _ ∙ after-none _ z ∙ b .says ks; within = b .within }

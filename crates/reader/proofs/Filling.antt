@@ -10,13 +10,14 @@ use Rattle.three.specs.Lists.{over}
 use Rattle.circuit.specs.declared.Counts.{Counts}
 use Rattle.circuit.specs.Refusal.{Passed}
 use Rattle.circuit.specs.Table.{top, Kind, input, latch, lamp, gate, several, rowTests}
-use Rattle.text.specs.Line.{splitLine}
+use Rattle.text.specs.Line.{readLine}
 use Rattle.text.specs.Outcome.{accepted, leaves}
-use Rattle.text.specs.Text.{words, lineTests, readBody}
+use Rattle.text.specs.Text.{words, lineTests, Lines, inFront, readLines}
 use Rattle.lines.specs.declared.ReadLine.{ReadLine}
 use Rattle.lines.specs.LinesInCode.{from, numbersOf, LineFound}
-use Rattle.reader.specs.ReaderInCode.{pairOf, WordsFit, bodyWords, Stand, stand, Fillable, Filled}
-use Rattle.text.proofs.Steps.{end-accepted, LineRead, line-accepted}
+use Rattle.reader.specs.ReaderInCode.{pairOf, WordsFit, linesOf, bodyWords, Stand, stand, Fillable, Filled}
+use Rattle.text.proofs.Steps.{LineRead, line-accepted, line-numbered}
+use Rattle.text.proofs.Outcomes.{accepted-same}
 use Rattle.reader.proofs.Bodies.{line-read}
 use Rattle.text.proofs.Stores.{sets-append, sets-front}
 use Rattle.text.proofs.Tables.{linesFrom, lines-first, lines-next, lines-last}
@@ -56,20 +57,20 @@ words-small most (gate own) ns h p (suc (suc i)) = omega arith
 -- ---- a line, and those behind it
 
 module _ (text : List ℕ) (c : Counts) (k : Kind) (ks : List Kind) {at p : ℕ} {table : List ℕ} (f : Fillable text c (stand (k ∷ ks) at p table))
-    {l : ReadLine} (g : LineFound text (splitLine 3 (from text at)) l) where
+    {l : ReadLine} (g : LineFound text (readLine (from text at)) l) where
   record Turn : Type 0 where
     passes : Passed (lineTests (top c) k (numbersOf l))
-    accepts : readBody (top c) ks (from text (l .next)) ≡ accepted (bodyWords c ks (from text (l .next)))
+    accepts : readLines (lineTests (top c)) ks (from text (l .next)) ≡ accepted (linesOf c ks (from text (l .next)))
     gives : words k (numbersOf l) ++ bodyWords c ks (from text (l .next)) ≡ bodyWords c (k ∷ ks) (from text at)
 
   turn : Turn
-  unfolding bodyWords leaves
+  unfolding linesOf leaves inFront
   turn =
-      let r : LineRead (top c) k ks (from text at) (bodyWords c (k ∷ ks) (from text at)) = line-accepted (top c) k ks _ (f .accepts) in
+      let r : LineRead (lineTests (top c)) k ks (from text at) (linesOf c (k ∷ ks) (from text at)) = line-accepted (lineTests (top c)) k ks _ (line-numbered (top c) k) (f .accepts) in
       let q = line-read l g (r .split) in
-      let on : readBody (top c) ks (from text (l .next)) ≡ accepted (r .others) = rw (q .1) (r .on) in
-      let same : bodyWords c ks (from text (l .next)) ≡ r .others = ap (leaves (λ ws. ws) []) on in
-      record { passes = rw (q .0) (r .passes); accepts = on ∙ ap accepted (sym same); gives = rw (same, q .0) (r .gives) }
+      let on : readLines (lineTests (top c)) ks (from text (l .next)) ≡ accepted (r .others) = rw (q .1) (r .on) in
+      let same : linesOf c ks (from text (l .next)) ≡ r .others = ap (leaves (λ (l : Lines). l) _) on in
+      record { passes = rw (q .0) (r .passes); accepts = on ∙ ap accepted (sym same); gives = rw (q .0) (ap (λ (o : Lines). words k (r .numbers) ++ o .words) same ∙ ap (λ (o : Lines). o .words) (r .gives)) }
 
   turn-long : length (words k (numbersOf l)) + length (bodyWords c ks (from text (l .next))) ≡ length (bodyWords c (k ∷ ks) (from text at))
   turn-long = let t : Turn = turn in sym (length-append (words k (numbersOf l)) _) ∙ ap length (t .gives)
@@ -98,8 +99,9 @@ filled-then a b = record { left = b .left; long = b .long ∙ a .long; same = b 
 
 pub filled-whole : {text : List ℕ} {c : Counts} {ks : List Kind} {at next p : ℕ} {table table′ : List ℕ} → Fillable text c (stand ks at 0 table)
     → Filled text c (stand ks at 0 table) (stand [] next p table′) → table′ ≡ over (bodyWords c ks (from text at)) table
-filled-whole {c = c} {p = p} {table = table} {table′ = table′} f a =
-    let none : [] ≡ _ = end-accepted (top c) _ (a .left .accepts) .1 in
+unfolding readLines
+filled-whole {p = p} {table = table} {table′ = table′} f a =
+    let none : [] ≡ _ = ap (λ (l : Lines). l .words) (accepted-same (a .left .accepts)) in
     ap (sets table′ p) none ∙ a .same ∙ sets-front table _ (omega (arith, f .room))
 
 -- ---- lines of one kind, of which i are stored
@@ -114,7 +116,7 @@ module _ {text : List ℕ} {c : Counts} {kind : ℕ → Kind} {own n : ℕ} {ks 
   filling-first {at} {p} {q} {table} f e = record { few = omega arith; on = rw (e, ← (lines-first kind own n ks)) (filled-none f) }
 
   module _ {s : Stand} {next p i : ℕ} {table : List ℕ} (f : Filling text c kind own n ks s next p i table) where
-    module _ (h : i < n) {l : ReadLine} (g : LineFound text (splitLine 3 (from text next)) l) {ws : List ℕ} (e : ws ≡ words (kind (own + 2 * i)) (numbersOf l)) where
+    module _ (h : i < n) {l : ReadLine} (g : LineFound text (readLine (from text next)) l) {ws : List ℕ} (e : ws ≡ words (kind (own + 2 * i)) (numbersOf l)) where
       here : Filled text c s (stand (kind (own + 2 * i) ∷ linesFrom kind own n ks (i + 1)) next p table)
       here = rw (lines-next kind own n ks i h) at (f .on)
 

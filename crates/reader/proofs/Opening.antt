@@ -1,16 +1,16 @@
 -- The first line of a text, found at its positions. Assumes nothing.
-use mathlib.Core.Path.{_≡_, refl, sym, _∙_}
+use mathlib.Core.Path.{_≡_, sym, _∙_}
 use mathlib.Core.Bool.{Bool, true, false, false≢true, true≢false}
-use mathlib.Core.List.{List, [], _∷_}
+use mathlib.Core.List.{List}
 use Prim.Native.Nat.{ℕ, _-_, _≤_, _<_}
-use native.Mathlib.Omega.{arith}
 use borrow.Author.Tests.{ltb-true, ltb-false}
 use lib.Dec.{ltb}
 use lib.ListN.{length}
 use Rattle.three.proofs.Lists.{by-test}
-use Rattle.text.specs.Line.{strip, splitLine}
+use Rattle.text.specs.Part.{ill}
+use Rattle.text.specs.Line.{strip, readLine}
 use Rattle.text.specs.Text.{magic, header}
-use Rattle.lines.specs.LinesInCode.{from, counted, LineFound}
+use Rattle.lines.specs.LinesInCode.{from}
 use Rattle.reader.specs.ReaderInCode.{opened}
 use Rattle.text.proofs.Parts.{by-part}
 use Rattle.text.proofs.Lines.{opening, strip-short, strip-alike, strip-unlike}
@@ -31,15 +31,11 @@ module _ (text : List ℕ) where
       (λ h. absurd (false≢true (opened-short (ltb-true (length text) 4 h) ∙ sym e ∙ t)))
       (ltb-false (length text) 4)
 
-  pub header-none : {b : Bool} → b ≡ opened text → b ≡ false → LineFound text (header text) (record { count = 0; numbers = 0 ∷ 0 ∷ 0 ∷ 0 ∷ 0 ∷ []; next = 0 })
-  unfolding opened header counted
-  header-none e f = record {
-    reads = by-part (strip magic text) (λ u r g. absurd (true≢false (sym (rw (opened, g) at e) ∙ f))) (λ g. rw (header, g));
-    shape = record { few = omega arith; long = refl };
-    within = omega arith;
-  }
+  pub header-none : {b : Bool} → b ≡ opened text → b ≡ false → header text ≡ ill
+  unfolding opened header
+  header-none e f = by-part (strip magic text) (λ u r g. absurd (true≢false (sym (rw (opened, g) at e) ∙ f))) (λ g. rw (header, g))
 
-  pub header-line : {b : Bool} → b ≡ opened text → b ≡ true → header text ≡ splitLine 5 (from text 4)
+  pub header-line : {b : Bool} → b ≡ opened text → b ≡ true → header text ≡ readLine (from text 4)
   unfolding header from
   header-line e t =
       let h = opened-long e t in

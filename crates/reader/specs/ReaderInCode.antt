@@ -6,14 +6,16 @@ use Prim.Native.Nat.{ℕ, _+_, _*_, _≤_, _<_}
 use lib.ListN.{length, getD}
 use lib.Seq.{sets}
 use Rattle.circuit.specs.declared.Counts.{Counts}
-use Rattle.circuit.specs.Table.{top, Kind, latch, lamp, gate, several, kinds}
+use Rattle.circuit.specs.Refusal.{Test}
+use Rattle.circuit.specs.Table.{top, Kind, input, latch, lamp, gate, several, kinds}
 use Rattle.circuit.specs.RulesInCode.{Bounded}
 use Rattle.reader.specs.declared.Judged.{Judged}
 use Rattle.reader.specs.declared.Judgement.{Judgement}
+use Rattle.reader.specs.declared.Judgement.the-variants.{Refused, Body}
 use Rattle.text.specs.Part.{got, ill}
 use Rattle.text.specs.Line.{strip}
-use Rattle.text.specs.Outcome.{Outcome, accepted, after, onward, leaves}
-use Rattle.text.specs.Text.{magic, readBody, readText}
+use Rattle.text.specs.Outcome.{Outcome, accepted, refused, after, onward, leaves}
+use Rattle.text.specs.Text.{magic, lineTests, Lines, readLines, readText}
 use Rattle.lines.specs.LinesInCode.{from}
 
 -- the text opens with `aag` and a space
@@ -22,29 +24,40 @@ opened text = elim (strip magic text) [ got u r ↦ true | ill ↦ false ]
 
 -- ---- the first pass
 
--- an outcome without what is read
-unfoldable pub bare : {A : Type 0} → Outcome A → Outcome (Unit {0})
-bare o = onward (λ a. tt) o
-
--- the same from its number
-abbrev pub answer : ℕ → Outcome (Unit {0})
-answer n = after n (accepted tt)
+-- the text that lines leave
+unfoldable pub left : Outcome Lines → Outcome (List ℕ)
+left o = onward (λ l. l .rest) o
 
 -- Lines judged that stand in front of any others: their refusal, or else the others decide
-pub record LinesJudged (text : List ℕ) (at most : ℕ) (lines : List Kind → List Kind) (j : Judged) : Type 0 where
-  pub says : (ks : List Kind) → bare (readBody most (lines ks) (from text at)) ≡ after (j .number) (bare (readBody most ks (from text (j .next))))
+pub record LinesJudged (text : List ℕ) (at : ℕ) (tests : Kind → List ℕ → List Test) (lines : List Kind → List Kind) (j : Judged) : Type 0 where
+  pub says : (ks : List Kind) → left (readLines tests (lines ks) (from text at)) ≡ after (j .number) (left (readLines tests ks (from text (j .next))))
   pub within : j .next ≤ length text
 
--- The first line is as it should be, and the body starts at `at`
+-- the lines of a circuit in front of any others
+abbrev pub kindsThen : Counts → List Kind → List Kind
+kindsThen c ks =
+    several input 2 (c .inputs)
+    (several latch (2 + 2 * c .inputs) (c .latches)
+    (several (λ own. lamp) 0 (c .lamps) (several gate (2 + 2 * c .inputs + 2 * c .latches) (c .gates) ks)))
+
+-- what lines of a text are read as, and their words
+unfoldable pub linesOf : Counts → List Kind → List ℕ → Lines
+linesOf c ks t = leaves (λ l. l) (record { words = []; rest = [] }) (readLines (lineTests (top c)) ks t)
+
+abbrev pub bodyWords : Counts → List Kind → List ℕ → List ℕ
+bodyWords c ks t = linesOf c ks t .words
+
+-- The text is read, and its body starts at `at`
 pub record BodyAt (text : List ℕ) (c : Counts) (at : ℕ) : Type 0 where
   pub bounded : Bounded c
   pub within : at ≤ length text
-  pub on : readText text ≡ onward (λ ws. record { counts = c; words = ws }) (readBody (top c) (kinds c) (from text at))
+  pub accepts : readLines (lineTests (top c)) (kinds c) (from text at) ≡ accepted (linesOf c (kinds c) (from text at))
+  pub reads : readText text ≡ accepted (record { counts = c; words = bodyWords c (kinds c) (from text at) })
 
 -- A text judged
-pub record TextJudged (text : List ℕ) (j : Judgement) : Type 0 where
-  pub says : bare (readText text) ≡ answer (j .number)
-  pub starts : j .number ≡ 0 → BodyAt text (j .counts) (j .body)
+abbrev pub TextJudged : List ℕ → Judgement → Type 0
+TextJudged text (Refused n) = readText text ≡ refused n
+TextJudged text (Body c at) = BodyAt text c at
 
 -- ---- the second pass
 
@@ -56,10 +69,6 @@ pairOf ns = getD ns 1 0 ∷ getD ns 2 0 ∷ []
 pub record WordsFit (ws : List ℕ) (p : ℕ) (table : List ℕ) : Type 0 where
   pub small : (i : ℕ) → getD ws i 0 < 65536
   pub room : p + length ws ≤ length table
-
--- the words that lines of a text are read as
-unfoldable pub bodyWords : Counts → List Kind → List ℕ → List ℕ
-bodyWords c ks t = leaves (λ ws. ws) [] (readBody (top c) ks t)
 
 -- the lines from the first gate, from the first lamp and from the first latch on
 abbrev pub gatesOn : Counts → List Kind
@@ -89,7 +98,7 @@ wordsLeft text c s = bodyWords c (s .lines) (from text (s .at))
 pub record Fillable (text : List ℕ) (c : Counts) (s : Stand) : Type 0 where
   pub bounded : Bounded c
   pub within : s .at ≤ length text
-  pub accepts : readBody (top c) (s .lines) (from text (s .at)) ≡ accepted (wordsLeft text c s)
+  pub accepts : readLines (lineTests (top c)) (s .lines) (from text (s .at)) ≡ accepted (linesOf c (s .lines) (from text (s .at)))
   pub room : s .word + length (wordsLeft text c s) ≤ length (s .table)
 
 -- The pass has come from s to t: what is left at t makes the table what it becomes from s

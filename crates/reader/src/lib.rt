@@ -15,10 +15,10 @@ ghost use Rattle.three.specs.Lists.{over};
 ghost use Rattle.circuit.specs.Refusal.{refusal};
 ghost use Rattle.circuit.specs.Table.{top, input, latch, lamp, gate, several, kinds};
 ghost use Rattle.circuit.specs.RulesInCode.{Bounded};
-ghost use Rattle.text.specs.Text.{lineTests, ends, readBody, header as firstLine, countsOf, headerTests};
+ghost use Rattle.text.specs.Text.{lineTests, ends, header as firstLine, countsOf, headerTests};
 ghost use Rattle.text.specs.Calls.{zeros, Reading};
 ghost use Rattle.lines.specs.LinesInCode.{from, Shape, numbersOf, LineFound};
-ghost use Rattle.reader.specs.ReaderInCode.{opened, bare, answer, LinesJudged, TextJudged, pairOf, WordsFit, bodyWords, stand, latchesOn, lampsOn, gatesOn, Fillable, Filled};
+ghost use Rattle.reader.specs.ReaderInCode.{opened, LinesJudged, kindsThen, TextJudged, pairOf, WordsFit, bodyWords, stand, latchesOn, lampsOn, gatesOn, Fillable, Filled};
 ghost use Rattle.text.specs.KindsInCode.{coded};
 
 // "At most 60,000 bytes."
@@ -42,13 +42,9 @@ fn header(text: &[u8]) -> ReadLine
     ensures { λ r. ⌜ LineFound (now (text .entry)) (firstLine (now (text .entry))) r ⌝ }
 {
     if !opens(text) {
-        return ReadLine {
-            count: 0,
-            numbers: [0usize; 5],
-            next: 0,
-        };
+        return lines::no_line(0);
     }
-    lines::line(text, 4, 5)
+    lines::line(text, 4)
 }
 
 // I, L, O and A of the first line.
@@ -182,9 +178,9 @@ struct Judged {
 
 fn judge_line(text: &[u8], at: usize, kind: u8, own: usize, most: usize) -> Judged
     requires { ⌜ at ≤ length (now text) ⌝ }
-    ensures { λ r. ⌜ LinesJudged (now (text .entry)) at most (λ ks. coded kind own ∷ ks) r ⌝ }
+    ensures { λ r. ⌜ LinesJudged (now (text .entry)) at (lineTests most) (λ ks. coded kind own ∷ ks) r ⌝ }
 {
-    let found = lines::line(text, at, 3);
+    let found = lines::line(text, at);
     Judged {
         number: line_refusal(kind, own, most, found),
         next: found.next,
@@ -194,7 +190,7 @@ fn judge_line(text: &[u8], at: usize, kind: u8, own: usize, most: usize) -> Judg
 // Lines of one kind, the first with the literal `own`.
 fn judge_lines(text: &[u8], at: usize, kind: u8, own: usize, count: usize, most: usize) -> Judged
     requires { ⌜ (at ≤ length (now text)) × (own + 2 * count ≤ 10000) ⌝ }
-    ensures { λ r. ⌜ LinesJudged (now (text .entry)) at most (several (coded kind) own count) r ⌝ }
+    ensures { λ r. ⌜ LinesJudged (now (text .entry)) at (lineTests most) (several (coded kind) own count) r ⌝ }
 {
     let mut next = at;
     for i in 0..count {
@@ -225,41 +221,33 @@ fn ended(text: &[u8], at: usize) -> bool
     text[at + 1] == 10
 }
 
-// Line by line, and then 9; 0 for no refusal. "one line for each input, latch, lamp and gate, in that order"
-fn judge_body(text: &[u8], at: usize, counts: Counts) -> u32
+// "one line for each input, latch, lamp and gate, in that order"
+fn judge_body(text: &[u8], at: usize, counts: Counts) -> Judged
     requires { ⌜ Bounded counts × (at ≤ length (now text)) ⌝ }
-    ensures { λ r. ⌜ bare (readBody (top counts) (kinds counts) (from (now (text .entry)) at)) ≡ answer r ⌝ }
+    ensures { λ r. ⌜ LinesJudged (now (text .entry)) at (lineTests (top counts)) (kindsThen counts) r ⌝ }
 {
     let latch = 2 + 2 * counts.inputs;
     let gate = latch + 2 * counts.latches;
     let most = 2 * (counts.inputs + counts.latches + counts.gates) + 1;
     let inputs = judge_lines(text, at, INPUT_LINE, 2, counts.inputs, most);
     if inputs.number != 0 {
-        return inputs.number;
+        return inputs;
     }
     let latches = judge_lines(text, inputs.next, LATCH_LINE, latch, counts.latches, most);
     if latches.number != 0 {
-        return latches.number;
+        return latches;
     }
     let lamps = judge_lines(text, latches.next, LAMP_LINE, 0, counts.lamps, most);
     if lamps.number != 0 {
-        return lamps.number;
+        return lamps;
     }
-    let gates = judge_lines(text, lamps.next, GATE_LINE, gate, counts.gates, most);
-    if gates.number != 0 {
-        return gates.number;
-    }
-    if !ended(text, gates.next) {
-        return 9;
-    }
-    0
+    judge_lines(text, lamps.next, GATE_LINE, gate, counts.gates, most)
 }
 
-// The first refusal of 1 to 9, 0 for none; and where it is 0 what the first line says, and where the body starts.
-struct Judgement {
-    number: u32,
-    counts: Counts,
-    body: usize,
+// The first refusal of 1 to 9; or what the first line says, and where a body starts that nothing refuses.
+enum Judgement {
+    Refused(u32),
+    Body(Counts, usize),
 }
 
 // "Reader: 1, 2, 3, then line by line (4, 5, 6, then 7 or 8), 9": once over the text, and nothing is written.
@@ -267,33 +255,22 @@ fn judge(text: &[u8]) -> Judgement
     ensures { λ r. ⌜ TextJudged (now (text .entry)) r ⌝ }
 {
     if text.len() > MOST_TEXT {
-        return Judgement {
-            number: 1,
-            counts: Counts {
-                inputs: 0,
-                latches: 0,
-                lamps: 0,
-                gates: 0,
-            },
-            body: 0,
-        };
+        return Judgement::Refused(1);
     }
     let first = header(text);
+    let in_header = header_refusal(first);
+    if in_header != 0 {
+        return Judgement::Refused(in_header);
+    }
     let counts = counts_of(first);
-    let body = first.next;
-    let number = header_refusal(first);
-    if number != 0 {
-        return Judgement {
-            number: number,
-            counts: counts,
-            body: body,
-        };
+    let body = judge_body(text, first.next, counts);
+    if body.number != 0 {
+        return Judgement::Refused(body.number);
     }
-    Judgement {
-        number: judge_body(text, body, counts),
-        counts: counts,
-        body: body,
+    if !ended(text, body.next) {
+        return Judgement::Refused(9);
     }
+    Judgement::Body(counts, first.next)
 }
 
 // The second and the third number of a line, stored from word p on.
@@ -312,7 +289,7 @@ fn skip_inputs(text: &[u8], at: usize, counts: Counts) -> usize
 {
     let mut next = at;
     for i in 0..counts.inputs {
-        let found = lines::line(text, next, 3);
+        let found = lines::line(text, next);
         next = found.next;
     }
     next
@@ -325,7 +302,7 @@ fn fill_latches(text: &[u8], at: usize, counts: Counts, table: &mut [u16]) -> us
 {
     let mut next = at;
     for i in 0..counts.latches {
-        let found = lines::line(text, next, 3);
+        let found = lines::line(text, next);
         fill_pair(found, table, 2 * i);
         next = found.next;
     }
@@ -340,7 +317,7 @@ fn fill_lamps(text: &[u8], at: usize, counts: Counts, table: &mut [u16]) -> usiz
     let first = 2 * counts.latches;
     let mut next = at;
     for i in 0..counts.lamps {
-        let found = lines::line(text, next, 3);
+        let found = lines::line(text, next);
         table[first + i] = lines::entry(found, 0) as u16;
         next = found.next;
     }
@@ -355,7 +332,7 @@ fn fill_gates(text: &[u8], at: usize, counts: Counts, table: &mut [u16]) -> usiz
     let first = 2 * counts.latches + counts.lamps;
     let mut next = at;
     for i in 0..counts.gates {
-        let found = lines::line(text, next, 3);
+        let found = lines::line(text, next);
         fill_pair(found, table, first + 2 * i);
         next = found.next;
     }
@@ -399,16 +376,19 @@ pub fn read(text: &[u8], table: &mut [u16]) -> ReadAnswer
     ensures { λ r. ⌜ Reading (now (text .entry)) (now (table .entry)) (r .number) (r .counts) (now (table .exit)) ⌝ }
 {
     let judgement = judge(text);
-    if judgement.number != 0 {
-        return refused(judgement.number);
-    }
-    let counts = judgement.counts;
-    if table.len() < table::table_length(counts) {
-        return refused(10);
-    }
-    fill(text, judgement.body, counts, table);
-    ReadAnswer {
-        number: 0,
-        counts: counts,
+    match judgement {
+        Judgement::Refused(number) => {
+            return refused(number);
+        }
+        Judgement::Body(counts, body) => {
+            if table.len() < table::table_length(counts) {
+                return refused(10);
+            }
+            fill(text, body, counts, table);
+            return ReadAnswer {
+                number: 0,
+                counts: counts,
+            };
+        }
     }
 }

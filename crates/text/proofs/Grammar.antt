@@ -17,14 +17,14 @@ use Rattle.circuit.specs.Refusal.{refusal, Passed}
 use Rattle.circuit.specs.Table.{variables, top, tableLength, Kind, input, latch, lamp, gate, kinds, width, rowTests, tableTests, circuitTests}
 use Rattle.circuit.specs.RulesInCode.{Bounded}
 use Rattle.text.specs.Part.{got, ill}
-use Rattle.text.specs.Line.{lineText, strip}
+use Rattle.text.specs.Line.{lineText, strip, mostNumbers}
 use Rattle.text.specs.Outcome.{accepted, onward}
-use Rattle.text.specs.Text.{magic, headNumbers, fits, owns, words, lineTests, comment, ends, readBody, header, countsOf, headerTests, Content, readText}
+use Rattle.text.specs.Text.{magic, headNumbers, fits, owns, words, lineTests, comment, ends, Lines, inFront, readLines, header, countsOf, headerTests, Content, readText}
 use Rattle.text.proofs.Parts.{by-part}
 use Rattle.circuit.proofs.Refusals.{passed-append, passed-refusal}
-use Rattle.text.proofs.Outcomes.{append-passed}
+use Rattle.text.proofs.Outcomes.{append-passed, accepted-same}
 use Rattle.text.proofs.Lines.{front-strip, Short, line-split, split-line}
-use Rattle.text.proofs.Steps.{end-fits, end-accepted, line-fits, LineRead, line-accepted, header-fits, header-accepted}
+use Rattle.text.proofs.Steps.{end-fits, line-fits, LineRead, line-accepted, header-fits, header-accepted, line-numbered}
 use Rattle.text.proofs.Tables.{size, size-kinds, due, Owned, owned-kinds, Taken, taken, taken-refusal}
 use Rattle.circuit.proofs.Legality.{passed-bounded, bounded-passed}
 
@@ -36,11 +36,15 @@ pub data Spelled (ws : List ℕ) : Kind → List ℕ → List ℕ → Type 0 whe
   lampLine : {literal : ℕ} → Spelled ws lamp (literal ∷ ws) (literal ∷ [])
   gateLine : {own left right : ℕ} → Spelled ws (gate own) (left ∷ right ∷ ws) (own ∷ left ∷ right ∷ [])
 
--- A text with one line for each kind, in order, and these words; then its end, or the comment line and anything
-pub data Says : List Kind → List ℕ → List ℕ → Type 0 where
-  stop : Says [] [] []
-  noted : {t : List ℕ} → Says [] [] (comment ++ t)
-  line : {k : Kind} {ks : List Kind} {all ws ns t : List ℕ} → Spelled ws k all ns → Says ks ws t → Says (k ∷ ks) all (lineText ns ++ t)
+-- A text with one line for each kind, in order, and these words; then the text r
+pub data Says (r : List ℕ) : List Kind → List ℕ → List ℕ → Type 0 where
+  stop : Says r [] [] r
+  line : {k : Kind} {ks : List Kind} {all ws ns t : List ℕ} → Spelled ws k all ns → Says r ks ws t → Says r (k ∷ ks) all (lineText ns ++ t)
+
+-- The end of a text, or the comment line and anything
+pub data Closing : List ℕ → Type 0 where
+  done : Closing []
+  noted : {t : List ℕ} → Closing (comment ++ t)
 
 -- A text of a circuit
 pub record Describes (t : List ℕ) (c : Content) : Type 0 where
@@ -49,7 +53,9 @@ pub record Describes (t : List ℕ) (c : Content) : Type 0 where
   pub whole : length (c .words) ≡ tableLength (c .counts)
   pub body : List ℕ
   pub text : t ≡ magic ++ (lineText (headNumbers (c .counts)) ++ body)
-  pub says : Says (kinds (c .counts)) (c .words) body
+  pub rest : List ℕ
+  pub says : Says rest (kinds (c .counts)) (c .words) body
+  pub closes : Closing rest
 
 -- ---- a line's words at the front of the table
 
@@ -74,7 +80,7 @@ rules-words most (gate own) ns ws = refl
 
 -- A spelled line as the reader takes it
 record Seen (most : ℕ) (k : Kind) (all ws ns : List ℕ) : Type 0 where
-  shape : (0 < length ns) × (length ns ≤ 3) × Short ns
+  shape : (0 < length ns) × (length ns ≤ mostNumbers) × Short ns
   passes : Passed (lineTests most k ns)
   gives : words k ns ++ ws ≡ all
 
@@ -86,16 +92,20 @@ seen m d (latchPlain {own = own}) p = record { shape = omega (arith, leb-true); 
 seen m d lampLine p = record { shape = omega (arith, leb-true); passes = (refl, (refl, p)); gives = refl }
 seen m d (gateLine {own = own}) p = record { shape = omega (arith, leb-true); passes = (refl, (eq-eqb own own refl, p)); gives = refl }
 
-says-read : (most : ℕ) {ks : List Kind} {ws t : List ℕ}
-    → most < 100000 → Owned most ks → Says ks ws t → Passed (tableTests most ks ws) → readBody most ks t ≡ accepted ws
-unfolding ends strip onward tableTests
-says-read most m o stop p = end-fits most [] refl
-says-read most m o (noted {t = t}) p = end-fits most (comment ++ t) refl
+says-read : (most : ℕ) {ks : List Kind} {r ws t : List ℕ}
+    → most < 100000 → Owned most ks → Says r ks ws t → Passed (tableTests most ks ws) → readLines (lineTests most) ks t ≡ accepted (record { words = ws; rest = r })
+unfolding readLines inFront onward tableTests
+says-read most m o stop p = refl
 says-read most m o (line {k = k} {ks = ks} {all = all} {ws = ws} {ns = ns} {t = t} s r) p =
     let q = passed-append (rowTests most k all) (tableTests most ks (drop (width k) all)) p in
     let v : Seen most k all ws ns = seen m (o .0) s (q .0) in
-    line-fits most k ks _ (line-split 3 ns t (v .shape .0) (v .shape .1) (v .shape .2)) (passed-refusal _ (v .passes))
+    line-fits (lineTests most) k ks _ (line-split mostNumbers ns t (v .shape .0) (v .shape .1) (v .shape .2)) (passed-refusal _ (v .passes))
     ∙ rw (says-read most m (o .1) r (rw (← (v .gives), drop-words) at (q .1)), v .gives)
+
+closing-ends : {r : List ℕ} → Closing r → ends r ≡ true
+unfolding ends strip
+closing-ends done = refl
+closing-ends noted = refl
 
 -- the first line's numbers
 head-fits : (c : Counts) → Bounded c → Short (headNumbers c) × Passed (headerTests (headNumbers c))
@@ -109,8 +119,8 @@ described {t} {c} d =
     let k : Taken n (c .words) = taken n (c .words) (d .legal) in
     let b = k .bounded in
     let f = head-fits n b in
-    let e : header t ≡ got (headNumbers n) (d .body) = rw (d .text) (line-split 5 (headNumbers n) (d .body) (omega arith) (omega arith) (f .0)) in
-    header-fits t (d .short) e (passed-refusal _ (f .1)) ∙ rw (says-read (top n) (omega arith) (owned-kinds n) (d .says) (k .rules))
+    let e : header t ≡ got (headNumbers n) (d .body) = rw (d .text) (line-split mostNumbers (headNumbers n) (d .body) (omega arith) (omega arith) (f .0)) in
+    header-fits t (d .short) e (passed-refusal _ (f .1)) ∙ rw (end-fits (says-read (top n) (omega arith) (owned-kinds n) (d .says) (k .rules)) (closing-ends (d .closes)))
 
 -- ---- what is read describes a circuit
 
@@ -132,32 +142,32 @@ spelled lamp ns ws f o = subst⁻¹ (Spelled ws lamp _) (listed 1 ns (eqb-true (
 spelled (gate own) ns ws f o = subst⁻¹ (Spelled ws (gate own) _) (listed 3 ns (eqb-true (length ns) 3 f) ∙ rw (eqb-true (getD ns 0 0) own o)) gateLine
 
 -- a proper end
-ends-says : (t : List ℕ) → ends t ≡ true → Says [] [] t
+ends-closing : (t : List ℕ) → ends t ≡ true → Closing t
 unfolding ends
-ends-says [] e = stop
-ends-says (b ∷ t) e = by-part (strip comment (b ∷ t)) (λ u r f. rw (front-strip comment (b ∷ t) r f) noted) (λ f. absurd (false≢true (rw (f, ends) at e)))
+ends-closing [] e = done
+ends-closing (b ∷ t) e = by-part (strip comment (b ∷ t)) (λ u r f. rw (front-strip comment (b ∷ t) r f) noted) (λ f. absurd (false≢true (rw (f, ends) at e)))
 
--- A body that is read as the words ws
-record Body (most : ℕ) (ks : List Kind) (t ws : List ℕ) : Type 0 where
-  says : Says ks ws t
-  sized : length ws ≡ size ks
-  rules : Passed (tableTests most ks ws)
+-- Lines that are read as l
+record Body (most : ℕ) (ks : List Kind) (t : List ℕ) (l : Lines) : Type 0 where
+  says : Says (l .rest) ks (l .words) t
+  sized : length (l .words) ≡ size ks
+  rules : Passed (tableTests most ks (l .words))
 
-body-line : {most : ℕ} {k : Kind} {ks : List Kind} {t ws : List ℕ} (l : LineRead most k ks t ws) → Body most ks (l .rest) (l .others) → Body most (k ∷ ks) t ws
-unfolding lineTests size tableTests
-body-line {most} {k} {ks} l b =
-    let ns : List ℕ = l .numbers in
-    let p = l .passes in
-    rw (split-line 3 (l .split) .text, ← (l .gives)) (record {
-      says = line (spelled k ns (l .others) (p .0) (p .1 .0)) (b .says);
+body-line : {most : ℕ} {k : Kind} {ks : List Kind} {t : List ℕ} {l : Lines} (f : LineRead (lineTests most) k ks t l) → Body most ks (f .behind) (f .others) → Body most (k ∷ ks) t l
+unfolding lineTests inFront size tableTests
+body-line {most} {k} {ks} f b =
+    let ns : List ℕ = f .numbers in
+    let p = f .passes in
+    rw (split-line mostNumbers (f .split) .text, ← (f .gives)) (record {
+      says = line (spelled k ns (f .others .words) (p .0) (p .1 .0)) (b .says);
       sized = simp (length-append, length-words) (omega arith);
-      rules = rw (rules-words, drop-words) (append-passed (rowTests most k (words k ns)) (tableTests most ks (l .others)) (p .1 .1) (b .rules));
+      rules = rw (rules-words, drop-words) (append-passed (rowTests most k (words k ns)) (tableTests most ks (f .others .words)) (p .1 .1) (b .rules));
     })
 
-read-body : (most : ℕ) (ks : List Kind) (t ws : List ℕ) → readBody most ks t ≡ accepted ws → Body most ks t ws
-unfolding size tableTests
-read-body most [] t ws a = let p = end-accepted most t a in rw (← (p .1)) (record { says = ends-says t (p .0); sized = refl; rules = tt })
-read-body most (k ∷ ks) t ws a = let l = line-accepted most k ks t a in body-line l (read-body most ks (l .rest) (l .others) (l .on))
+read-body : (most : ℕ) (ks : List Kind) (t : List ℕ) {l : Lines} → readLines (lineTests most) ks t ≡ accepted l → Body most ks t l
+unfolding readLines size tableTests
+read-body most [] t a = rw (← (accepted-same a)) (record { says = stop; sized = refl; rules = tt })
+read-body most (k ∷ ks) t a = let f = line-accepted (lineTests most) k ks t (line-numbered most k) a in body-line f (read-body most ks (f .behind) (f .on))
 
 -- the first line is made of the counts in it
 head-counts : (ns : List ℕ) → Passed (headerTests ns) → ns ≡ headNumbers (countsOf ns)
@@ -167,7 +177,7 @@ head-counts ns p = listed 5 ns (eqb-true (length ns) 5 (p .0)) ∙ rw (eqb-true 
 header-text : (t : List ℕ) {ns r : List ℕ} → header t ≡ got ns r → t ≡ magic ++ (lineText ns ++ r)
 unfolding header
 header-text t a = by-part (strip magic t)
-    (λ u s e. front-strip magic t s e ∙ ap (λ x. magic ++ x) (split-line 5 (rw (header, e) at a) .text))
+    (λ u s e. front-strip magic t s e ∙ ap (λ x. magic ++ x) (split-line mostNumbers (rw (header, e) at a) .text))
     (λ e. let z : ill ≡ got _ _ = rw (header, e) at a in cc)
 
 pub describes : (t : List ℕ) {c : Content} → readText t ≡ accepted c → Describes t c
@@ -175,14 +185,16 @@ unfolding headerTests
 describes t a =
     let h = header-accepted t a in
     let n : Counts = countsOf (h .numbers) in
-    let b = read-body (top n) (kinds n) (h .rest) (h .others) (h .on) in
+    let b = read-body (top n) (kinds n) (h .behind) (h .on) in
     rw (← (h .gives)) (record {
       short = h .short;
       legal = taken-refusal (record { bounded = passed-bounded n (h .passes .1 .1); long = omega (arith, size-kinds n); rules = b .rules });
       whole = b .sized ∙ size-kinds n;
-      body = h .rest;
-      text = header-text t (h .split) ∙ ap (λ x. magic ++ (lineText x ++ h .rest)) (head-counts (h .numbers) (h .passes));
+      body = h .behind;
+      text = header-text t (h .split) ∙ ap (λ x. magic ++ (lineText x ++ h .behind)) (head-counts (h .numbers) (h .passes));
+      rest = h .lines .rest;
       says = b .says;
+      closes = ends-closing _ (h .closed);
     })
 
 pub grammar : (t : List ℕ) (c : Content) → (readText t ≡ accepted c) ↔ Describes t c

@@ -3,10 +3,10 @@ use mathlib.Core.List.{List, [], _∷_}
 use Prim.Native.Nat.{ℕ, zero, suc, _≤_}
 use native.Mathlib.Omega.{arith}
 use Rattle.circuit.specs.Refusal.{Test, refusal}
-use Rattle.circuit.specs.Table.{Kind, kinds, top}
-use Rattle.text.specs.Line.{splitLine}
-use Rattle.text.specs.Outcome.{Outcome, accepted, refused, after, tested, onward}
-use Rattle.text.specs.Text.{readBody, header, countsOf, readText}
+use Rattle.circuit.specs.Table.{Kind, kinds}
+use Rattle.text.specs.Line.{readLine}
+use Rattle.text.specs.Outcome.{Outcome, accepted, refused, after, tested, further, onward}
+use Rattle.text.specs.Text.{readLines, thenEnds, header, countsOf, readText}
 use Rattle.text.proofs.Parts.{by-part}
 
 abbrev pub HasNumber : {A : Type 0} → Outcome A → Type 0
@@ -26,15 +26,20 @@ unfolding onward
 onward-numbered f (accepted a) h = tt
 onward-numbered f (refused n) h = h
 
-body-numbered : (most : ℕ) (ks : List Kind) (t : List ℕ) → HasNumber (readBody most ks t)
-unfolding readBody
-body-numbered most [] t = tested-numbered _ (accepted []) tt
-body-numbered most (k ∷ ks) t = by-part (splitLine 3 t)
-    (λ ns rest e. rw (readBody, e) (tested-numbered _ _ (onward-numbered _ _ (body-numbered most ks rest))))
-    (λ e. rw (readBody, e) (omega arith))
+further-numbered : {A : Type 0} (ts : A → List Test) (o : Outcome A) → HasNumber o → HasNumber (further ts o)
+unfolding further
+further-numbered ts (accepted a) h = tested-numbered (ts a) (accepted a) tt
+further-numbered ts (refused n) h = h
+
+lines-numbered : (tests : Kind → List ℕ → List Test) (ks : List Kind) (t : List ℕ) → HasNumber (readLines tests ks t)
+unfolding readLines
+lines-numbered tests [] t = tt
+lines-numbered tests (k ∷ ks) t = by-part (readLine t)
+    (λ ns rest e. rw (readLines, e) (tested-numbered _ _ (onward-numbered _ _ (lines-numbered tests ks rest))))
+    (λ e. rw (readLines, e) (omega arith))
 
 pub read-numbered : (t : List ℕ) → HasNumber (readText t)
-unfolding readText
+unfolding readText thenEnds
 read-numbered t = by-part (header t)
-    (λ ns rest e. rw (readText, e) (tested-numbered _ _ (tested-numbered _ _ (onward-numbered _ _ (body-numbered (top (countsOf ns)) (kinds (countsOf ns)) rest)))))
+    (λ ns rest e. rw (readText, e) (tested-numbered _ _ (tested-numbered _ _ (onward-numbered _ _ (further-numbered _ _ (lines-numbered _ (kinds (countsOf ns)) rest))))))
     (λ e. rw (readText, e) (tested-numbered _ (refused 2) (omega arith)))

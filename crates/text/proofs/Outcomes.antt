@@ -1,5 +1,5 @@
 -- Laws of tests as facts, and of outcomes behind tests. Assumes nothing.
-use mathlib.Core.Path.{_≡_, refl, sym, ap}
+use mathlib.Core.Path.{_≡_, refl, sym, ap, subst}
 use mathlib.Core.Bool.{true}
 use mathlib.Core.List.{List, [], _∷_, _++_}
 use Prim.Native.Nat.{ℕ, zero, suc}
@@ -7,7 +7,7 @@ use native.Mathlib.Omega.{arith}
 use Rattle.three.proofs.Lists.{and-parts}
 use Rattle.circuit.specs.Refusal.{Test, refusal, allHold, Passed}
 use Rattle.circuit.proofs.Refusals.{Numbered, passes}
-use Rattle.text.specs.Outcome.{Outcome, accepted, refused, numberOf, after, tested, onward}
+use Rattle.text.specs.Outcome.{Outcome, accepted, refused, numberOf, after, tested, onward, further}
 
 -- ---- tests as facts
 
@@ -45,6 +45,9 @@ number-onward f (refused n) = refl
 pub refused-accepted : {A : Type 0} {n : ℕ} {a : A} → refused n ≡ accepted a → ⊥
 refused-accepted e = let z : _≡_ {A = ℕ} 0 1 = cc in omega arith
 
+pub accepted-same : {A : Type 0} {a b : A} → accepted a ≡ accepted b → a ≡ b
+accepted-same e = cc
+
 pub tested-accepted : {A : Type 0} (ts : List Test) (o : Outcome A) {a : A} → Numbered ts → tested ts o ≡ accepted a → Passed ts × (o ≡ accepted a)
 unfolding tested after
 tested-accepted ts o {a} n = go (refusal ts) refl
@@ -52,6 +55,11 @@ tested-accepted ts o {a} n = go (refusal ts) refl
     go : (k : ℕ) → k ≡ refusal ts → after k o ≡ accepted a → Passed ts × (o ≡ accepted a)
     go zero h e = (passes ts n h, e)
     go (suc k) h e = absurd (refused-accepted e)
+
+pub further-accepted : {A : Type 0} (ts : A → List Test) (o : Outcome A) {a : A} → ((b : A) → Numbered (ts b)) → further ts o ≡ accepted a → (o ≡ accepted a) × Passed (ts a)
+unfolding further
+further-accepted ts (accepted b) n e = let p = tested-accepted (ts b) (accepted b) (n b) e in (p .1, subst (λ x. Passed (ts x)) (accepted-same (p .1)) (p .0))
+further-accepted ts (refused m) n e = absurd (refused-accepted e)
 
 pub onward-accepted : {A B : Type 0} (f : A → B) (o : Outcome A) {b : B} → onward f o ≡ accepted b → (a : A) × (o ≡ accepted a) × (f a ≡ b)
 unfolding onward

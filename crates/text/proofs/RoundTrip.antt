@@ -14,7 +14,7 @@ use Rattle.text.specs.Outcome.{accepted}
 use Rattle.text.specs.Text.{shown, numbers, writeBody, writeText, Content, readText}
 use Rattle.text.specs.Calls.{Reading, Writing}
 use Rattle.text.proofs.Tables.{size, size-kinds, Taken, taken, taken-refusal}
-use Rattle.text.proofs.Grammar.{Spelled, inputLine, latchLine, latchPlain, lampLine, gateLine, Says, stop, line, Describes, described, describes}
+use Rattle.text.proofs.Grammar.{Spelled, inputLine, latchLine, latchPlain, lampLine, gateLine, Says, stop, line, done, Describes, described, describes}
 use Rattle.text.proofs.Bound.{text-bound}
 use Rattle.text.proofs.Answers.{read-fits, reading-accepted, write-legal}
 
@@ -36,7 +36,7 @@ row (gate own) [] rest w = absurd (omega arith)
 row (gate own) (a ∷ []) rest w = absurd (omega arith)
 row (gate own) (a ∷ b ∷ ws) rest w = record { spelled = gateLine; rules = λ most. refl }
 
-written-says : (ks : List Kind) (ws : List ℕ) → size ks ≤ length ws → Says ks (take (size ks) ws) (writeBody ks ws)
+written-says : (ks : List Kind) (ws : List ℕ) → size ks ≤ length ws → Says [] ks (take (size ks) ws) (writeBody ks ws)
 unfolding writeBody size
 written-says [] ws h = stop
 written-says (k ∷ ks) ws h =
@@ -100,7 +100,9 @@ module _ (c : Counts) (table : List ℕ) (legal : 0 ≡ refusal (circuitTests c 
         whole = length-take-le (tableLength c) table (k .long);
         body = writeBody (kinds c) table;
         text = refl;
+        rest = [];
         says = rw (← size-kinds c) (written-says (kinds c) table (omega (arith, size-kinds c)));
+        closes = done;
       }
 
   pub round-trip : readText (writeText c table) ≡ accepted (given c table)

@@ -1,75 +1,80 @@
 -- Reading a step at a time, in the order of the refusals: what stops it, what lets it go on, and what it accepted. Assumes nothing.
 use mathlib.Core.Path.{_≡_, _∙_}
 use mathlib.Core.Bool.{true, false}
-use mathlib.Core.List.{List, [], _∷_, _++_}
+use mathlib.Core.List.{List, [], _∷_}
 use Prim.Native.Nat.{ℕ, suc, _≤_, _<_}
 use native.Mathlib.Omega.{arith}
 use borrow.Author.Tests.{leb-true, le-leb, lt-leb}
 use lib.Dec.{leb}
 use lib.ListN.{length}
-use Rattle.circuit.specs.Refusal.{_or_, refusal, Passed}
+use Rattle.circuit.specs.Refusal.{Test, _or_, refusal, Passed}
 use Rattle.circuit.specs.Table.{top, ceilingTests, Kind, input, latch, lamp, gate, kinds, rowTests}
 use Rattle.circuit.proofs.Refusals.{Numbered, stops, past, none}
 use Rattle.text.specs.Part.{got, ill}
-use Rattle.text.specs.Line.{splitLine}
-use Rattle.text.specs.Outcome.{Outcome, accepted, refused, tested, onward}
-use Rattle.text.specs.Text.{words, lineTests, ends, readBody, header, countsOf, headerTests, Content, content, readText}
+use Rattle.text.specs.Line.{readLine}
+use Rattle.text.specs.Outcome.{Outcome, accepted, refused, tested, further, onward}
+use Rattle.text.specs.Text.{words, lineTests, ends, Lines, inFront, readLines, thenEnds, header, countsOf, headerTests, Content, content, readText}
 use Rattle.text.proofs.Parts.{by-part}
-use Rattle.text.proofs.Outcomes.{tested-stops, tested-past, refused-accepted, tested-accepted, onward-accepted}
-
--- ---- 9, after the last line
-
-module _ (most : ℕ) (t : List ℕ) where
-  pub end-stops : ends t ≡ false → readBody most [] t ≡ refused 9
-  unfolding readBody
-  end-stops e = tested-stops _ (accepted []) (stops _ [] e)
-
-  pub end-fits : ends t ≡ true → readBody most [] t ≡ accepted []
-  unfolding readBody
-  end-fits e = tested-past _ (accepted []) (past _ [] e none)
-
-  pub end-accepted : {ws : List ℕ} → readBody most [] t ≡ accepted ws → (ends t ≡ true) × ([] ≡ ws)
-  unfolding readBody
-  end-accepted e = let p = tested-accepted (ends t or 9 ∷ []) (accepted []) (omega arith) e in (p .0 .0, cc)
+use Rattle.text.proofs.Outcomes.{tested-stops, tested-past, refused-accepted, tested-accepted, further-accepted, onward-accepted}
 
 -- ---- 4 to 8, line by line
 
-module _ (most : ℕ) (k : Kind) (ks : List Kind) (t : List ℕ) where
-  pub line-ill : splitLine 3 t ≡ ill → readBody most (k ∷ ks) t ≡ refused 4
-  unfolding readBody
-  line-ill e = rw (readBody, e)
+module _ (tests : Kind → List ℕ → List Test) (k : Kind) (ks : List Kind) (t : List ℕ) where
+  pub line-ill : readLine t ≡ ill → readLines tests (k ∷ ks) t ≡ refused 4
+  unfolding readLines
+  line-ill e = rw (readLines, e)
 
-  module _ {ns rest : List ℕ} (e : splitLine 3 t ≡ got ns rest) where
-    pub line-stops : {n : ℕ} → suc n ≡ refusal (lineTests most k ns) → readBody most (k ∷ ks) t ≡ refused (suc n)
-    unfolding readBody
-    line-stops h = rw (readBody, e) (tested-stops (lineTests most k ns) _ h)
+  module _ {ns rest : List ℕ} (e : readLine t ≡ got ns rest) where
+    pub line-stops : {n : ℕ} → suc n ≡ refusal (tests k ns) → readLines tests (k ∷ ks) t ≡ refused (suc n)
+    unfolding readLines
+    line-stops h = rw (readLines, e) (tested-stops (tests k ns) _ h)
 
-    pub line-fits : 0 ≡ refusal (lineTests most k ns) → readBody most (k ∷ ks) t ≡ onward (λ ws. words k ns ++ ws) (readBody most ks rest)
-    unfolding readBody
-    line-fits h = rw (readBody, e) (tested-past (lineTests most k ns) _ h)
+    pub line-fits : 0 ≡ refusal (tests k ns) → readLines tests (k ∷ ks) t ≡ onward (inFront (words k ns)) (readLines tests ks rest)
+    unfolding readLines
+    line-fits h = rw (readLines, e) (tested-past (tests k ns) _ h)
 
   -- A first line that is read, and the lines after it
-  pub record LineRead (ws : List ℕ) : Type 0 where
+  pub record LineRead (l : Lines) : Type 0 where
     pub numbers : List ℕ
-    pub rest : List ℕ
-    pub others : List ℕ
-    pub split : splitLine 3 t ≡ got numbers rest
-    pub passes : Passed (lineTests most k numbers)
-    pub on : readBody most ks rest ≡ accepted others
-    pub gives : words k numbers ++ others ≡ ws
+    pub behind : List ℕ
+    pub others : Lines
+    pub split : readLine t ≡ got numbers behind
+    pub passes : Passed (tests k numbers)
+    pub on : readLines tests ks behind ≡ accepted others
+    pub gives : inFront (words k numbers) others ≡ l
 
-  numbered : (ns : List ℕ) → Numbered (lineTests most k ns)
-  unfolding lineTests rowTests
-  numbered ns = elim k [ input own ↦ omega arith | latch own ↦ omega arith | gate own ↦ omega arith | lamp ↦ omega arith ]
-
-  pub line-accepted : {ws : List ℕ} → readBody most (k ∷ ks) t ≡ accepted ws → LineRead ws
-  unfolding readBody
-  line-accepted {ws} a = by-part (splitLine 3 t)
+  pub line-accepted : {l : Lines} → ((ns : List ℕ) → Numbered (tests k ns)) → readLines tests (k ∷ ks) t ≡ accepted l → LineRead l
+  unfolding readLines
+  line-accepted n a = by-part (readLine t)
       (λ ns rest e.
-      let p = tested-accepted (lineTests most k ns) _ (numbered ns) (rw (readBody, e) at a) in
-      let q = onward-accepted (λ ws. words k ns ++ ws) (readBody most ks rest) (p .1) in
-      record { numbers = ns; rest = rest; others = q .0; split = e; passes = p .0; on = q .1; gives = q .2 })
-      (λ e. absurd (refused-accepted (rw (readBody, e) at a)))
+      let p = tested-accepted (tests k ns) _ (n ns) (rw (readLines, e) at a) in
+      let q = onward-accepted (inFront (words k ns)) (readLines tests ks rest) (p .1) in
+      record { numbers = ns; behind = rest; others = q .0; split = e; passes = p .0; on = q .1; gives = q .2 })
+      (λ e. absurd (refused-accepted (rw (readLines, e) at a)))
+
+pub line-numbered : (most : ℕ) (k : Kind) (ns : List ℕ) → Numbered (lineTests most k ns)
+unfolding lineTests rowTests
+line-numbered most k ns = elim k [ input own ↦ omega arith | latch own ↦ omega arith | gate own ↦ omega arith | lamp ↦ omega arith ]
+
+-- ---- 9, after the last line
+
+module _ {o : Outcome Lines} where
+  pub lines-stop : {n : ℕ} → o ≡ refused n → thenEnds o ≡ refused n
+  unfolding thenEnds further
+  lines-stop e = rw e
+
+  pub end-accepted : {l : Lines} → thenEnds o ≡ accepted l → (o ≡ accepted l) × (ends (l .rest) ≡ true)
+  unfolding thenEnds
+  end-accepted e = let p = further-accepted (λ (l : Lines). ends (l .rest) or 9 ∷ []) o (λ l. omega arith) e in (p .0, p .1 .0)
+
+  module _ {l : Lines} (e : o ≡ accepted l) where
+    pub end-stops : ends (l .rest) ≡ false → thenEnds o ≡ refused 9
+    unfolding thenEnds further
+    end-stops f = rw e (tested-stops _ (accepted l) (stops _ [] f))
+
+    pub end-fits : ends (l .rest) ≡ true → thenEnds o ≡ accepted l
+    unfolding thenEnds further
+    end-fits f = rw e (tested-past _ (accepted l) (past _ [] f none))
 
 -- ---- 1, 2 and 3
 
@@ -90,7 +95,7 @@ module _ (t : List ℕ) (short : length t ≤ 60000) where
     unfolding readText
     header-stops h = text-short ∙ rw e (tested-stops (headerTests ns) _ h)
 
-    pub header-fits : 0 ≡ refusal (headerTests ns) → readText t ≡ onward (content ns) (readBody (top (countsOf ns)) (kinds (countsOf ns)) rest)
+    pub header-fits : 0 ≡ refusal (headerTests ns) → readText t ≡ onward (content ns) (thenEnds (readLines (lineTests (top (countsOf ns))) (kinds (countsOf ns)) rest))
     unfolding readText
     header-fits h = text-short ∙ rw e (tested-past (headerTests ns) _ h)
 
@@ -98,12 +103,13 @@ module _ (t : List ℕ) (short : length t ≤ 60000) where
 pub record HeaderRead (t : List ℕ) (c : Content) : Type 0 where
   pub short : length t ≤ 60000
   pub numbers : List ℕ
-  pub rest : List ℕ
-  pub others : List ℕ
-  pub split : header t ≡ got numbers rest
+  pub behind : List ℕ
+  pub lines : Lines
+  pub split : header t ≡ got numbers behind
   pub passes : Passed (headerTests numbers)
-  pub on : readBody (top (countsOf numbers)) (kinds (countsOf numbers)) rest ≡ accepted others
-  pub gives : content numbers others ≡ c
+  pub on : readLines (lineTests (top (countsOf numbers))) (kinds (countsOf numbers)) behind ≡ accepted lines
+  pub closed : ends (lines .rest) ≡ true
+  pub gives : content numbers lines ≡ c
 
 pub header-accepted : (t : List ℕ) {c : Content} → readText t ≡ accepted c → HeaderRead t c
 unfolding readText headerTests ceilingTests
@@ -112,6 +118,7 @@ header-accepted t a =
     by-part (header t)
     (λ ns rest e.
     let p = tested-accepted (headerTests ns) _ (omega arith) (rw e at (s .1)) in
-    let q = onward-accepted (content ns) (readBody (top (countsOf ns)) (kinds (countsOf ns)) rest) (p .1) in
-    record { short = leb-true (length t) 60000 (s .0 .0); numbers = ns; rest = rest; others = q .0; split = e; passes = p .0; on = q .1; gives = q .2 })
+    let q = onward-accepted (content ns) (thenEnds (readLines (lineTests (top (countsOf ns))) (kinds (countsOf ns)) rest)) (p .1) in
+    let z = end-accepted (q .1) in
+    record { short = leb-true (length t) 60000 (s .0 .0); numbers = ns; behind = rest; lines = q .0; split = e; passes = p .0; on = z .0; closed = z .1; gives = q .2 })
     (λ e. absurd (refused-accepted (rw e at (s .1))))

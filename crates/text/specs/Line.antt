@@ -43,3 +43,11 @@ splitLine (suc most) t = elim (readNumber t) [
             elim (strip space r) [ got u rest ↦ prepend n (splitLine most rest) | ill ↦ ill ]
       ]
 ]
+
+-- no line has more numbers than the first, M I L O A
+abbrev pub mostNumbers : ℕ
+mostNumbers = 5
+
+-- the numbers of a line
+abbrev pub readLine : List ℕ → Part (List ℕ)
+readLine t = splitLine mostNumbers t

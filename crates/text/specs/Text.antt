@@ -9,8 +9,8 @@ use Rattle.circuit.specs.declared.Counts.{Counts}
 use Rattle.circuit.specs.Refusal.{Test, _or_}
 use Rattle.circuit.specs.Table.{variables, top, ceilingTests, Kind, input, latch, lamp, gate, kinds, width, rowTests}
 use Rattle.text.specs.Part.{Part, got, ill}
-use Rattle.text.specs.Line.{newline, lineText, strip, splitLine}
-use Rattle.text.specs.Outcome.{Outcome, accepted, refused, tested, onward}
+use Rattle.text.specs.Line.{newline, lineText, strip, readLine}
+use Rattle.text.specs.Outcome.{Outcome, accepted, refused, tested, further, onward}
 
 -- `aag` and a space
 abbrev pub magic : List ℕ
@@ -79,18 +79,30 @@ unfoldable pub ends : List ℕ → Bool
 ends [] = true
 ends (b ∷ t) = elim (strip comment (b ∷ t)) [ got u rest ↦ true | ill ↦ false ]
 
--- the words of the lines, line by line; then 9
-unfoldable pub readBody : ℕ → List Kind → List ℕ → Outcome (List ℕ)
-readBody most [] t = tested (ends t or 9 ∷ []) (accepted [])
-readBody most (k ∷ ks) t = elim (splitLine 3 t) [
+-- What lines are read as: their words, and the text behind them
+pub record Lines : Type 0 where
+  pub words : List ℕ
+  pub rest : List ℕ
+
+-- the words of a line in front of those of the lines after it
+unfoldable pub inFront : List ℕ → Lines → Lines
+inFront ws l = record { words = ws ++ l .words; rest = l .rest }
+
+-- a line for each kind, in order, each judged by its tests; 4 where there is none
+unfoldable pub readLines : (Kind → List ℕ → List Test) → List Kind → List ℕ → Outcome Lines
+readLines tests [] t = accepted (record { words = []; rest = t })
+readLines tests (k ∷ ks) t = elim (readLine t) [
   | ill ↦ refused 4
-  | got ns rest ↦
-      tested (lineTests most k ns) (onward (λ ws. words k ns ++ ws) (readBody most ks rest))
+  | got ns rest ↦ tested (tests k ns) (onward (inFront (words k ns)) (readLines tests ks rest))
 ]
+
+-- then 9
+unfoldable pub thenEnds : Outcome Lines → Outcome Lines
+thenEnds o = further (λ l. ends (l .rest) or 9 ∷ []) o
 
 -- the numbers of the first line
 unfoldable pub header : List ℕ → Part (List ℕ)
-header t = elim (strip magic t) [ got u r ↦ splitLine 5 r | ill ↦ ill ]
+header t = elim (strip magic t) [ got u r ↦ readLine r | ill ↦ ill ]
 
 -- I, L, O and A among them
 unfoldable pub countsOf : List ℕ → Counts
@@ -105,14 +117,14 @@ pub record Content : Type 0 where
   pub counts : Counts
   pub words : List ℕ
 
--- the same from the first line's numbers
-abbrev pub content : List ℕ → List ℕ → Content
-content ns ws = record { counts = countsOf ns; words = ws }
+-- the same from the first line's numbers and the lines after it
+abbrev pub content : List ℕ → Lines → Content
+content ns l = record { counts = countsOf ns; words = l .words }
 
 -- 1, 2, 3, then line by line, 9
 unfoldable pub readText : List ℕ → Outcome Content
 readText t = tested (leb (length t) 60000 or 1 ∷ []) (elim (header t) [
   | ill ↦ refused 2
   | got ns rest ↦
-      tested (headerTests ns) (onward (content ns) (readBody (top (countsOf ns)) (kinds (countsOf ns)) rest))
+      tested (headerTests ns) (onward (content ns) (thenEnds (readLines (lineTests (top (countsOf ns))) (kinds (countsOf ns)) rest)))
 ])

@@ -1,5 +1,6 @@
--- `reader::judge` meets its contract: the length, the first line, and then the body. Assumes nothing.
-use Rattle.reader.proofs.Answering.{judged-long, judged-header, judged-bounded, judged-body}
+-- `reader::judge` meets its contract: the length, the first line, the body, and then the end. Assumes nothing.
+use borrow.Author.Tests.{not-true, not-false}
+use Rattle.reader.proofs.Answering.{judged-long, judged-header, judged-bounded, judged-stops, judged-open, judged-body}
 use native.Mathlib.Omega.{arith}
 use borrow.Author.Needs.{needs}
 use Rattle.reader.proofs.judge.Statement.{statement}
@@ -11,20 +12,43 @@ returns c = judged-long _ (c .if1 .taken)
 header-requires : tie.Need-header-requires
 header-requires c κs = search needs
 
-counts-of-requires : tie.Need-counts-of-requires
-counts-of-requires c κs = search needs
-
 header-refusal-requires : tie.Need-header-refusal-requires
 header-refusal-requires c κs = search needs
 
 returns-2 : tie.Need-returns-2
-returns-2 c = judged-header _ (c .before .before .before .before .if1 .left) (c .before .before .before .header .ensures) (c .before .header-refusal .ensures) (c .if2 .taken)
+returns-2 c = judged-header _ (c .before .before .before .if1 .left) (c .before .before .header .ensures) (c .before .header-refusal .ensures) (c .if2 .taken)
+
+counts-of-requires : tie.Need-counts-of-requires
+counts-of-requires c κs = search needs
 
 judge-body-requires : tie.Need-judge-body-requires
-judge-body-requires c κs = (judged-bounded _ (c .before .before .before .before .if1 .left) (c .before .before .before .header .ensures) (c .before .header-refusal .ensures) (c .if2 .left) (c .before .before .counts-of .ensures), omega arith)
+judge-body-requires c κs =
+    let refusal = c .before .before in
+    (judged-bounded _ (refusal .before .before .if1 .left) (refusal .before .header .ensures) (refusal .header-refusal .ensures) (c .before .if2 .left) (c .counts-of .ensures), omega arith)
 
 returns-3 : tie.Need-returns-3
-returns-3 c = judged-body _ (c .before .before .before .before .before .if1 .left) (c .before .before .before .before .header .ensures) (c .before .before .header-refusal .ensures) (c .before .if2 .left) (c .before .before .before .counts-of .ensures) (c .judge-body .ensures)
+returns-3 c =
+    let body = c .before .before in
+    let counts = body .before in
+    let refusal = counts .before .before in
+    judged-stops _ (refusal .before .before .if1 .left) (refusal .before .header .ensures) (refusal .header-refusal .ensures) (counts .before .if2 .left) (counts .counts-of .ensures) (body .judge-body .ensures) (c .if3 .taken)
+
+ended-requires : tie.Need-ended-requires
+ended-requires c κs = search needs
+
+returns-4 : tie.Need-returns-4
+returns-4 c =
+    let body = c .before .before .before .before in
+    let counts = body .before in
+    let refusal = counts .before .before in
+    judged-open _ (refusal .before .before .if1 .left) (refusal .before .header .ensures) (refusal .header-refusal .ensures) (counts .before .if2 .left) (counts .counts-of .ensures) (body .judge-body .ensures) (c .before .before .if3 .left) (c .before .ended .ensures) (not-true _ (c .if4 .taken))
+
+returns-5 : tie.Need-returns-5
+returns-5 c =
+    let body = c .before .before .before .before in
+    let counts = body .before in
+    let refusal = counts .before .before in
+    judged-body _ (refusal .before .before .if1 .left) (refusal .before .header .ensures) (refusal .header-refusal .ensures) (counts .before .if2 .left) (counts .counts-of .ensures) (body .judge-body .ensures) (c .before .before .if3 .left) (c .before .ended .ensures) (not-false _ (c .if4 .left))
 
 pub judge-spec : {M : Type 1} → statement M
 judge-spec =
@@ -32,8 +56,11 @@ judge-spec =
     (tie.spec
     returns
     header-requires
-    counts-of-requires
     header-refusal-requires
     returns-2
+    counts-of-requires
     judge-body-requires
-    returns-3)
+    returns-3
+    ended-requires
+    returns-4
+    returns-5)

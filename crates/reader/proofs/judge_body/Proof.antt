@@ -1,8 +1,8 @@
--- `reader::judge_body` meets its contract: the lines of each kind in turn, and then the end of the text. Assumes nothing.
+-- `reader::judge_body` meets its contract: the lines of each kind in turn; the first refusal decides. Assumes nothing.
 use native.Mathlib.Omega.{arith}
+use Rattle.text.specs.KindsInCode.{coded}
+use Rattle.reader.proofs.Bodies.{judged-stop, judged-then}
 use borrow.Author.Needs.{needs}
-use borrow.Author.Tests.{not-true, not-false}
-use Rattle.reader.proofs.Bodies.{stop-inputs, stop-latches, stop-lamps, stop-gates, end-over, end-last}
 use Rattle.reader.proofs.judge_body.Statement.{statement}
 use Rattle.reader.proofs.judge_body.Tie as tie
 
@@ -34,26 +34,30 @@ judge-lines-requires : tie.Need-judge-lines-requires
 judge-lines-requires c κs = search needs
 
 returns : tie.Need-returns
-returns c = stop-inputs _ _ _ (c .before .before .judge-lines .ensures) (c .if1 .taken)
+unfolding coded
+returns c = judged-stop _ (c .before .before .judge-lines .ensures) (c .if1 .taken)
 
 judge-lines-requires-2 : tie.Need-judge-lines-requires-2
 judge-lines-requires-2 c κs = search needs
 
 returns-2 : tie.Need-returns-2
+unfolding coded
 returns-2 c =
     let latches = c .before .before in
     let inputs = latches .before .before .before in
-    stop-latches _ _ _ (inputs .judge-lines .ensures) (latches .before .if1 .left) (latches .judge-lines2 .ensures) (c .if2 .taken)
+    judged-then _ (inputs .judge-lines .ensures) (latches .before .if1 .left) (judged-stop _ (latches .judge-lines2 .ensures) (c .if2 .taken))
 
 judge-lines-requires-3 : tie.Need-judge-lines-requires-3
 judge-lines-requires-3 c κs = search needs
 
 returns-3 : tie.Need-returns-3
+unfolding coded
 returns-3 c =
     let lamps = c .before .before in
     let latches = lamps .before .before .before in
     let inputs = latches .before .before .before in
-    stop-lamps _ _ _ (inputs .judge-lines .ensures) (latches .before .if1 .left) (latches .judge-lines2 .ensures) (lamps .before .if2 .left) (lamps .judge-lines3 .ensures) (c .if3 .taken)
+    let stop = judged-stop _ (lamps .judge-lines3 .ensures) (c .if3 .taken) in
+    judged-then _ (inputs .judge-lines .ensures) (latches .before .if1 .left) (judged-then _ (latches .judge-lines2 .ensures) (lamps .before .if2 .left) stop)
 
 judge-lines-requires-4 : tie.Need-judge-lines-requires-4
 judge-lines-requires-4 c κs =
@@ -61,31 +65,13 @@ judge-lines-requires-4 c κs =
     (omega arith, omega (arith, start .pre .0))
 
 returns-4 : tie.Need-returns-4
+unfolding coded
 returns-4 c =
-    let gates = c .before .before in
-    let lamps = gates .before .before .before in
+    let lamps = c .before .before .before in
     let latches = lamps .before .before .before in
     let inputs = latches .before .before .before in
-    stop-gates _ _ _ (inputs .judge-lines .ensures) (latches .before .if1 .left) (latches .judge-lines2 .ensures) (lamps .before .if2 .left) (lamps .judge-lines3 .ensures) (gates .before .if3 .left) (gates .judge-lines4 .ensures) (c .if4 .taken)
-
-ended-requires : tie.Need-ended-requires
-ended-requires c κs = search needs
-
-returns-5 : tie.Need-returns-5
-returns-5 c =
-    let gates = c .before .before .before .before in
-    let lamps = gates .before .before .before in
-    let latches = lamps .before .before .before in
-    let inputs = latches .before .before .before in
-    end-over _ _ _ (inputs .judge-lines .ensures) (latches .before .if1 .left) (latches .judge-lines2 .ensures) (lamps .before .if2 .left) (lamps .judge-lines3 .ensures) (gates .before .if3 .left) (gates .judge-lines4 .ensures) (c .before .before .if4 .left) (c .before .ended .ensures) (not-true _ (c .if5 .taken))
-
-returns-6 : tie.Need-returns-6
-returns-6 c =
-    let gates = c .before .before .before .before in
-    let lamps = gates .before .before .before in
-    let latches = lamps .before .before .before in
-    let inputs = latches .before .before .before in
-    end-last _ _ _ (inputs .judge-lines .ensures) (latches .before .if1 .left) (latches .judge-lines2 .ensures) (lamps .before .if2 .left) (lamps .judge-lines3 .ensures) (gates .before .if3 .left) (gates .judge-lines4 .ensures) (c .before .before .if4 .left) (c .before .ended .ensures) (not-false _ (c .if5 .left))
+    let gates = judged-then _ (lamps .judge-lines3 .ensures) (c .before .if3 .left) (c .judge-lines4 .ensures) in
+    judged-then _ (inputs .judge-lines .ensures) (latches .before .if1 .left) (judged-then _ (latches .judge-lines2 .ensures) (lamps .before .if2 .left) gates)
 
 pub judge-body-spec : {M : Type 1} → statement M
 judge-body-spec =
@@ -106,7 +92,4 @@ judge-body-spec =
     judge-lines-requires-3
     returns-3
     judge-lines-requires-4
-    returns-4
-    ended-requires
-    returns-5
-    returns-6)
+    returns-4)

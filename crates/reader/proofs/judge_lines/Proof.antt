@@ -1,5 +1,6 @@
 -- `reader::judge_lines` meets its contract: each line is judged in turn, as `Turns` says. Assumes nothing.
 use Prim.Native.Nat.{_-_}
+use Rattle.text.specs.Text.{lineTests}
 use Rattle.text.specs.KindsInCode.{coded}
 use Rattle.reader.proofs.Bodies.{Turns, turns-first, turns-next, turns-stop, turns-last}
 use native.Mathlib.Omega.{arith}
@@ -7,7 +8,7 @@ use Rattle.reader.proofs.judge_lines.Statement.{statement}
 use Rattle.reader.proofs.judge_lines.Tie as tie
 
 abbrev Inv-loop : tie.InvT-loop
-Inv-loop text at kind own count most next₀ i₀ next i = Turns text at most (coded kind) own count next i
+Inv-loop text at kind own count most next₀ i₀ next i = Turns text at (lineTests most) (coded kind) own count next i
 
 abbrev μ-loop : tie.MeasureT-loop
 μ-loop text at kind own count most next₀ i₀ next i = count - i

@@ -1,5 +1,5 @@
 -- `reader::read` meets its contract: the text is judged as a whole before a word is stored. Assumes nothing.
-use Rattle.reader.proofs.Answering.{answers-refused, answers-short, fillable, answers-filled}
+use Rattle.reader.proofs.Answering.{answers-refused, starts, answers-short, fillable, answers-filled}
 use native.Mathlib.Omega.{arith}
 use borrow.Author.Needs.{needs}
 use Rattle.reader.proofs.read.Statement.{statement}
@@ -8,37 +8,53 @@ use Rattle.reader.proofs.read.Tie as tie
 judge-requires : tie.Need-judge-requires
 judge-requires c κs = search needs
 
+enum-known-judgement : tie.Need-enum-known-judgement
+enum-known-judgement c = search needs
+
 refused-requires : tie.Need-refused-requires
 refused-requires c κs = search needs
 
 returns : tie.Need-returns
-returns c = answers-refused _ _ (c .before .before .before .judge .ensures) (c .refused .ensures .0) (c .refused .ensures .1) (λ z. omega arith)
+returns c =
+    let known = c .before .before in
+    answers-refused _ _ (known .before .before .judge .ensures) (known .judgement .given .1) (c .refused .ensures .0) (c .refused .ensures .1)
+
+enum-known-judgement-2 : tie.Need-enum-known-judgement-2
+enum-known-judgement-2 c = search needs
 
 table-length-requires : tie.Need-table-length-requires
-table-length-requires c κs = c .before .before .before .judge .ensures .starts (c .before .if1 .left) .bounded
+table-length-requires c κs = starts _ (c .before .before .before .judge .ensures) (c .before .judgement2 .given .1) .bounded
 
 refused-requires-2 : tie.Need-refused-requires-2
 refused-requires-2 c κs = search needs
 
 returns-2 : tie.Need-returns-2
-returns-2 c = answers-short _ _ (c .before .before .before .before .before .before .judge .ensures) (c .before .before .before .before .if1 .left) (c .refused2 .ensures .0) (c .refused2 .ensures .1) (omega arith)
+returns-2 c =
+    let known = c .before .before .before .before in
+    answers-short _ _ (known .before .before .judge .ensures) (known .judgement2 .given .1) (c .refused2 .ensures .0) (c .refused2 .ensures .1) (omega arith)
 
 fill-requires : tie.Need-fill-requires
-fill-requires c κs = fillable _ _ (c .before .before .before .before .before .before .judge .ensures) (c .before .before .before .before .if1 .left) (omega arith)
+fill-requires c κs =
+    let known = c .before .before .before .before in
+    fillable _ _ (known .before .before .judge .ensures) (known .judgement2 .given .1) (omega arith)
 
 same-length : tie.Need-same-length
 same-length c = search needs
 
 returns-3 : tie.Need-returns-3
-returns-3 c = answers-filled _ _ (c .before .before .before .before .before .before .before .before .before .judge .ensures) (c .before .before .before .before .before .before .before .if1 .left) (omega arith) (c .before .before .fill .ensures)
+returns-3 c =
+    let known = c .before .before .before .before .before .before .before in
+    answers-filled _ _ (known .before .before .judge .ensures) (known .judgement2 .given .1) (omega arith) (c .before .before .fill .ensures)
 
 pub read-spec : {M : Type 1} → statement M
 read-spec =
     tie.close
     (tie.spec
     judge-requires
+    enum-known-judgement
     refused-requires
     returns
+    enum-known-judgement-2
     table-length-requires
     refused-requires-2
     returns-2
