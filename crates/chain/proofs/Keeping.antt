@@ -10,8 +10,9 @@ use lib.Dec.{eqb}
 use lib.ListN.{length, getD, set, drop}
 use lib.Seq.{paste, getD-drop}
 use Rattle.three.proofs.Lists.{Stored, stored-next, getD-paste, length-tabulate, getD-tabulate}
+use Rattle.cubes.specs.HeldInCode.{differingByte}
 use Rattle.cubes.specs.Run.{due}
-use Rattle.chain.specs.ChainInCode.{differingByte, widenedBytes, heldAfter}
+use Rattle.chain.specs.ChainInCode.{widenedBytes, heldAfter}
 
 -- ---- a due number
 

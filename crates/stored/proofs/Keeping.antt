@@ -6,7 +6,8 @@ use native.Mathlib.Nat.{one-mul, mul-le-mul-right}
 use native.Mathlib.Omega.{arith}
 use lib.ListN.{length, getD, set}
 use Rattle.three.proofs.Lists.{Stored, stored-next, length-tabulate, getD-tabulate}
-use Rattle.stored.specs.CubesInCode.{keptByte, keptBytes}
+use Rattle.cubes.specs.HeldInCode.{keptByte}
+use Rattle.stored.specs.CubesInCode.{keptBytes}
 
 module _ (len : ℕ) (held b : List ℕ) where
   pub length-kept : length (keptBytes len held b) ≡ len
