@@ -1,85 +1,40 @@
 -- The chain, cube by cube: what the buffer and the progress hold after each, and how the run goes on from there. Assumes nothing.
-use mathlib.Core.Path.{_≡_, refl, sym, ap, ap₂, _∙_}
-use mathlib.Core.Bool.{Bool, true, false, _||_}
-use mathlib.Core.List.{List, [], _∷_, map, append-nil, flatMap}
-use Prim.Native.Nat.{ℕ, zero, suc, _+_, _*_, _-_, _<_, _≤_}
+use mathlib.Core.Path.{_≡_, refl, sym, ap, _∙_}
+use mathlib.Core.Bool.{Bool, true, false}
+use mathlib.Core.List.{List, append-nil, flatMap}
+use Prim.Native.Nat.{ℕ, suc, _+_, _*_, _-_, _<_, _≤_}
 use native.Mathlib.Nat.{suc-mul, one-mul}
 use native.Mathlib.Numerals.{add-one}
 use native.Mathlib.Omega.{arith}
-use lib.Bits.{bitAnd, bitOr}
-use lib.Dec.{eqb}
-use lib.ListN.{length, getD, take, drop, replicate, length-map, length-append, length-drop, getD-replicate, List·getD-append}
+use lib.Bits.{bitOr}
+use lib.ListN.{length, getD, take, drop, replicate, length-append, length-drop, getD-replicate, List·getD-append}
 use lib.Seq.{paste, getD-take, getD-drop, length-take-le}
-use Rattle.three.specs.Lists.{tabulate, every, adjust, over}
+use Rattle.three.specs.Lists.{tabulate, over}
 use Rattle.three.specs.Cube.{Cube, subsumes}
-use Rattle.three.specs.Record.{bytesFor, pack, unpack, IsRecord}
-use Rattle.three.proofs.Lists.{every-ext, length-tabulate, getD-tabulate, tabulate-ext, length-adjust}
-use Rattle.three.proofs.Pack.{getD-pack}
-use Rattle.three.proofs.Bytewise.{covers, covers-subsumes}
+use Rattle.three.proofs.Lists.{length-tabulate, getD-tabulate}
 use Rattle.circuit.specs.declared.Counts.{Counts}
-use Rattle.circuit.specs.Circuit.{Circuit, Latch, next}
+use Rattle.circuit.specs.Circuit.{Circuit}
 use Rattle.circuit.specs.Table.{circuitOf}
 use Rattle.chain.specs.declared.Progress.{Progress}
-use Rattle.cubes.specs.Run.{hold, differing, due, nextCube, start, Stage, reached, widened, store, stage, cubeAt, Found, at, nowhere, search, closed, full, back, run}
-use Rattle.stored.specs.CubesInCode.{startFields, keptByte, keptBytes, coversFrom, first, SwitchesX}
-use Rattle.chain.specs.ChainInCode.{heldPair, heldByte, differingByte, widenedBytes, heldAfter, Advanced}
+use Rattle.cubes.specs.Run.{hold, due, nextCube, start, Stage, reached, widened, store, stage, cubeAt, at, closed, full, back, run}
+use Rattle.stored.specs.CubesInCode.{startFields, keptBytes, coversFrom, first, SwitchesX}
+use Rattle.chain.specs.ChainInCode.{widenedBytes, heldAfter, Advanced}
 use Rattle.cubes.proofs.Wider.{reached-sized}
 use Rattle.cubes.proofs.Growing.{held-sized}
 use Rattle.stored.proofs.Keeping.{length-kept}
-use Rattle.chain.proofs.Pairs.{kept-byte, widened-byte}
 use Rattle.stored.proofs.Starting.{start-fields}
-use Rattle.cubes.proofs.Storing.{records, records-sized, stored-more, stored-cube, stored-sound, stored-byte}
-use Rattle.stored.proofs.Searching.{first-at, first-none, first-ext}
-use Rattle.cubes.proofs.Steps.{Searched, searched, found, none-before, none-at-all, run-closes-now, run-goes-on}
-use Rattle.cubes.proofs.Buffered.{latches-sized, cubes-sized}
+use Rattle.cubes.proofs.Storing.{records-sized, stored-more, stored-cube, stored-sound, stored-byte}
+use Rattle.stored.proofs.First.{first-ext, search-first}
+use Rattle.cubes.proofs.Steps.{run-closes-now, run-goes-on}
+use Rattle.cubes.proofs.Buffered.{latches-counted, next-counted, cubes-sized}
+use Rattle.cubes.specs.Buffer.{cubeBytes, packCubes, packCube, IsCube, cubeOf, longestCube}
+use Rattle.cubes.proofs.StoredCube.{few-bytes, Bytes, cube-covers, HeldBytes, cube-at, cube-kept, none-held, cube-widened}
+use Rattle.cubes.specs.HeldInCode.{heldByte, differingByte}
 
 -- ---- a list pasted at the front
 
 front-byte : (d s : List ℕ) (n i : ℕ) → i < n → n ≤ length s → getD (paste d 0 s n) i 0 ≡ getD s i 0
 front-byte d s n i h l = List·getD-append (take n s) _ 0 i (rw (length-take-le n s l) h) ∙ getD-take n s i 0 h
-
--- ---- the first cube that a test finds, and the run's search
-
--- it is what the search finds
-search-first : (cubes : ℕ → Cube) (b : Cube) (n : ℕ) → (first n (λ k. subsumes (cubes k) b) < n → search cubes n b ≡ at (first n (λ k. subsumes (cubes k) b)))
-    × (n ≤ first n (λ k. subsumes (cubes k) b) → search cubes n b ≡ nowhere)
-search-first cubes b n = go (search cubes n b) (searched cubes b n)
-  where
-    j : ℕ
-    j = first n (λ k. subsumes (cubes k) b)
-
-    go : (f : Found) → Searched cubes b n f → (j < n → f ≡ at j) × (n ≤ j → f ≡ nowhere)
-    go (at i) s =
-        let h = found s in
-        let e : j ≡ i = first-at n (λ k. subsumes (cubes k) b) i (h .0) (h .1) (none-before s) in
-        (λ l. ap at (sym e), λ l. absurd (omega arith))
-    go nowhere s = let e : j ≡ n = first-none n (λ k. subsumes (cubes k) b) (none-at-all s) in (λ l. absurd (omega arith), λ l. refl)
-
--- ---- held latches as bytes
-
-module _ (size : ℕ) (held : List ℕ) (flags : List Bool) (holding : (i : ℕ) → i < bytesFor size → getD held i 0 ≡ heldByte flags i) where
-  -- b with held latches set to X is the record of the cube with held latches set to X
-  kept-record : (bytes : List ℕ) (v : Cube) → length v ≡ size → ((i : ℕ) → i < bytesFor size → getD bytes i 0 ≡ getD (pack v) i 0) → keptBytes (bytesFor size) held bytes ≡ pack (hold flags v)
-  unfolding keptBytes pack hold
-  kept-record bytes v sized same =
-      ap (λ (n : ℕ). tabulate (bytesFor n) (λ i. keptByte (getD bytes i 0) (getD held i 0))) (sym sized ∙ sym (length-adjust _ v flags))
-      ∙ tabulate-ext (bytesFor (length (hold flags v))) _ _
-      (λ i h. let l : i < bytesFor size = rw (length-adjust, sized) at h in
-      let l′ : i < bytesFor (length v) = rw sized l in
-      ap₂ keptByte (same i l ∙ getD-pack v i l′) (holding i l) ∙ kept-byte flags v i)
-
-  -- and the held bytes after widening are those of the latches held then
-  wider-held : (a b : List ℕ) (x y : Cube) → length x ≡ size → length y ≡ size → length flags ≡ size
-      → ((i : ℕ) → i < bytesFor size → getD a i 0 ≡ getD (pack x) i 0) → ((i : ℕ) → i < bytesFor size → getD b i 0 ≡ getD (pack y) i 0)
-      → (i : ℕ) → i < bytesFor size → getD (paste held 0 (widenedBytes (bytesFor size) held a b) (bytesFor size)) i 0 ≡ heldByte (adjust _||_ flags (differing x y)) i
-  unfolding widenedBytes
-  wider-held a b x y sx sy sf ea eb i h =
-      let hx : i < bytesFor (length x) = rw sx h in
-      let hy : i < bytesFor (length y) = rw sy h in
-      front-byte held (widenedBytes (bytesFor size) held a b) (bytesFor size) i h (omega (arith, length-tabulate (bytesFor size) (λ k. bitOr (getD held k 0) (differingByte (getD a k 0) (getD b k 0)))))
-      ∙ getD-tabulate (bytesFor size) _ i 0 h
-      ∙ ap₂ bitOr (holding i h) (ap₂ differingByte (ea i h ∙ getD-pack x i hx) (eb i h ∙ getD-pack y i hy))
-      ∙ widened-byte flags x y (sf ∙ sym sx) (sx ∙ sym sy) i
 
 -- ---- the chain
 
@@ -91,7 +46,7 @@ module _ (c : Counts) (words : List ℕ) (w : ℕ) (buffer : List ℕ) where
   size = c .latches
 
   abbrev len : ℕ
-  len = bytesFor (c .latches)
+  len = cubeBytes (c .latches)
 
   -- so many cubes are stored, none of them closes the run, and these latches are held
   pub record Going (count : ℕ) (held cubes values : List ℕ) : Type 0 where
@@ -99,38 +54,28 @@ module _ (c : Counts) (words : List ℕ) (w : ℕ) (buffer : List ℕ) where
     pub counts : count ≡ suc last
     pub fits : count * len ≤ length buffer
     pub open-yet : run circuit w last ≡ full
-    pub stored : cubes ≡ over (records (cubeAt circuit w) count) buffer
-    pub holding : (i : ℕ) → i < len → getD held i 0 ≡ heldByte (stage circuit w last .held) i
+    pub stored : cubes ≡ over (packCubes (cubeAt circuit w) count) buffer
+    pub holding : HeldBytes size held (stage circuit w last .held)
     pub ready : SwitchesX c values
 
   flags-sized : (k : ℕ) → length (stage circuit w k .held) ≡ size
-  flags-sized k = held-sized circuit w k ∙ latches-sized c words w
+  flags-sized k = held-sized circuit w k ∙ latches-counted c words
 
-  -- at first no latch is held
-  none-held : (ls : List Latch) (k : ℕ) → heldByte (map (λ (l : Latch). false) ls) k ≡ 0
-  unfolding heldByte heldPair
-  none-held ls k = simp (free ls)
-    where
-      free : (ls : List Latch) (i : ℕ) → getD (map (λ (l : Latch). false) ls) i false ≡ false
-      free [] i = refl
-      free (l ∷ ls) zero = refl
-      free (l ∷ ls) (suc i) = free ls i
-
-  pub going-first : (cubes values : List ℕ) → size ≤ 512 → len ≤ length buffer → cubes ≡ over (pack (startFields words (c .latches))) buffer → SwitchesX c values
-      → Going 1 (replicate 128 0) cubes values
+  pub going-first : (cubes values : List ℕ) → size ≤ 512 → len ≤ length buffer → cubes ≡ over (packCube (startFields words (c .latches))) buffer → SwitchesX c values
+      → Going 1 (replicate longestCube 0) cubes values
   unfolding run stage cubeAt
   going-first cubes values few room e r = record {
     last = 0;
     counts = refl;
     fits = omega (arith, one-mul len);
     open-yet = refl;
-    stored = e ∙ ap (λ (v : Cube). over (pack v) buffer) (sym (start-fields c words)) ∙ ap (λ (l : List ℕ). over l buffer) (sym first-record);
-    holding = λ i h. getD-replicate {A = ℕ} 128 i 0 0 (omega arith) ∙ sym (none-held (circuit .latches) i);
+    stored = e ∙ ap (λ (v : Cube). over (packCube v) buffer) (sym (start-fields c words)) ∙ ap (λ (l : List ℕ). over l buffer) (sym first-record);
+    holding = λ i h. getD-replicate {A = ℕ} longestCube i 0 0 (omega (arith, few-bytes few)) ∙ sym (none-held (circuit .latches) i);
     ready = r;
   }
     where
-      first-record : records (cubeAt circuit w) 1 ≡ pack (start circuit)
-      first-record = unfold records tabulate flatMap cubeAt stage in append-nil (pack (start circuit))
+      first-record : packCubes (cubeAt circuit w) 1 ≡ packCube (start circuit)
+      first-record = unfold packCubes tabulate flatMap cubeAt stage in append-nil (packCube (start circuit))
 
   module _ {count : ℕ} {held cubes values : List ℕ} (g : Going count held cubes values) where
     abbrev here : Stage
@@ -147,38 +92,35 @@ module _ (c : Counts) (words : List ℕ) (w : ℕ) (buffer : List ℕ) where
     pub all-fits : count * len ≤ length cubes
     all-fits = omega (arith, g .fits, same-length)
 
-    pub last-record : IsRecord size (drop (g .last * len) cubes)
+    pub last-record : IsCube size (drop (g .last * len) cubes)
     last-record = rw (g .stored) (stored-sound size (cubeAt circuit w) (cubes-sized c words w) buffer count (g .last) (omega (arith, g .counts)) (g .fits))
 
-    last-cube : unpack size (drop (g .last * len) cubes) ≡ cubeAt circuit w (g .last)
-    last-cube = rw (g .stored) (stored-cube size (cubeAt circuit w) (cubes-sized c words w) buffer count (g .last) (omega (arith, g .counts)))
+    last-cube : cubeOf size (drop (g .last * len) cubes) ≡ cubeAt circuit w (g .last)
+    last-cube = cube-at size refl cubes (g .last) ∙ rw (g .stored) (stored-cube size (cubeAt circuit w) (cubes-sized c words w) buffer count (g .last) (omega (arith, g .counts)))
+
+    stored-bytes : (k : ℕ) → k < count → Bytes size (λ i. getD cubes (k * len + i) 0) (cubeAt circuit w k)
+    stored-bytes k h i l = ap (λ (x : List ℕ). getD x (k * len + i) 0) (g .stored) ∙ stored-byte size (cubeAt circuit w) (cubes-sized c words w) buffer count k h i l
 
     -- the run's b, as the code reaches it
-    pub Reached : List ℕ → Type 0
-    Reached b = (i : ℕ) → i < len → getD b i 0 ≡ getD (pack (reached circuit here)) i 0
+    abbrev pub Reached : List ℕ → Type 0
+    Reached b = Bytes size (λ i. getD b i 0) (reached circuit here)
 
-    pub reached-b : (b b′ : List ℕ) → b′ ≡ paste b 0 (keptBytes len held (pack (nextCube circuit (unpack size (drop (g .last * len) cubes))))) len → Reached b′
-    unfolding Reached reached cubeAt
+    pub reached-b : (b b′ : List ℕ) → b′ ≡ paste b 0 (keptBytes len held (packCube (nextCube circuit (cubeOf size (drop (g .last * len) cubes))))) len → Reached b′
+    unfolding reached cubeAt keptBytes
     reached-b b b′ e i h =
         let n : Cube = nextCube circuit (here .cube) in
-        let record′ : keptBytes len held (pack (nextCube circuit (unpack size (drop (g .last * len) cubes)))) ≡ pack (hold (here .held) n) =
-        ap (λ (v : Cube). keptBytes len held (pack (nextCube circuit v))) last-cube ∙ kept-record size held (here .held) (g .holding) (pack n) n (next-sized (here .cube)) (λ k l. refl) in
-        ap (λ (l : List ℕ). getD l i 0) e ∙ front-byte b _ len i h (omega (arith, length-kept len held (pack (nextCube circuit (unpack size (drop (g .last * len) cubes)))))) ∙ ap (λ (l : List ℕ). getD l i 0) record′
-      where
-        next-sized : (v : Cube) → length (nextCube circuit v) ≡ size
-        next-sized v = unfold nextCube next in length-map (circuit .latches) _ ∙ latches-sized c words w
+        let kept : keptBytes len held (packCube (nextCube circuit (cubeOf size (drop (g .last * len) cubes)))) ≡ packCube (hold (here .held) n) =
+        ap (λ (v : Cube). keptBytes len held (packCube (nextCube circuit v))) last-cube ∙ cube-kept held (here .held) (g .holding) _ n (next-counted c words (here .cube)) (λ k l. refl) in
+        ap (λ (l : List ℕ). getD l i 0) e ∙ front-byte b _ len i h (omega (arith, length-kept len held (packCube (nextCube circuit (cubeOf size (drop (g .last * len) cubes)))))) ∙ ap (λ (l : List ℕ). getD l i 0) kept
 
     module _ (b : List ℕ) (reach : Reached b) where
+      reach-sized : length (reached circuit here) ≡ size
+      reach-sized = reached-sized circuit here ∙ latches-counted c words
+
       -- the byte-wise search is the run's
       covering : (k : ℕ) → k < count → coversFrom len cubes b (k * len) ≡ subsumes (cubeAt circuit w k) (reached circuit here)
-      unfolding coversFrom Reached
-      covering k h =
-          let stored : (i : ℕ) → i < len → getD cubes (k * len + i) 0 ≡ getD (pack (cubeAt circuit w k)) i 0 =
-          λ i l. ap (λ (x : List ℕ). getD x (k * len + i) 0) (g .stored) ∙ stored-byte size (cubeAt circuit w) (cubes-sized c words w) buffer count k h i l in
-          every-ext len _ (covers (pack (cubeAt circuit w k)) (pack (reached circuit here)))
-          (λ i l. ap₂ (λ (x y : ℕ). eqb (bitAnd x y) x) (stored i l) (reach i l))
-          ∙ ap (λ (n : ℕ). every (bytesFor n) (covers (pack (cubeAt circuit w k)) (pack (reached circuit here)))) (sym (cubes-sized c words w k))
-          ∙ covers-subsumes (cubeAt circuit w k) (reached circuit here) (cubes-sized c words w k ∙ sym (reached-sized circuit here ∙ latches-sized c words w))
+      unfolding coversFrom
+      covering k h = cube-covers _ _ _ _ (cubes-sized c words w k) reach-sized (stored-bytes k h) reach
 
       abbrev sought : ℕ
       sought = first count (λ k. coversFrom len cubes b (k * len))
@@ -203,34 +145,32 @@ module _ (c : Counts) (words : List ℕ) (w : ℕ) (buffer : List ℕ) where
         abbrev flags : List Bool
         flags = widened d here (reached circuit here)
 
-        reach-sized : length (reached circuit here) ≡ size
-        reach-sized = reached-sized circuit here ∙ latches-sized c words w
-
         before-last : count * len - len ≡ g .last * len
         before-last = omega (arith, suc-mul (g .last) len, ap (λ (n : ℕ). n * len) (g .counts))
 
-        last-byte : (i : ℕ) → i < len → getD (drop (count * len - len) cubes) i 0 ≡ getD (pack (cubeAt circuit w (g .last))) i 0
-        last-byte i l =
-            ap (λ (n : ℕ). getD (drop n cubes) i 0) before-last ∙ getD-drop (g .last * len) cubes i 0
-            ∙ ap (λ (x : List ℕ). getD x (g .last * len + i) 0) (g .stored)
-            ∙ stored-byte size (cubeAt circuit w) (cubes-sized c words w) buffer count (g .last) (omega (arith, g .counts)) i l
+        last-byte : Bytes size (λ i. getD (drop (count * len - len) cubes) i 0) (cubeAt circuit w (g .last))
+        last-byte i l = ap (λ (n : ℕ). getD (drop n cubes) i 0) before-last ∙ getD-drop (g .last * len) cubes i 0 ∙ stored-bytes (g .last) (omega (arith, g .counts)) i l
 
-        held-next : (i : ℕ) → i < len → getD (after .held) i 0 ≡ heldByte flags i
+        held-next : HeldBytes size (after .held) flags
         held-next i l = ap (λ (x : List ℕ). getD x i 0) (advanced .holds) ∙ go d
           where
-            go : (e : Bool) → getD (heldAfter e len held (drop (count * len - len) cubes) b) i 0 ≡ heldByte (widened e here (reached circuit here)) i
+            wider : Bool → List ℕ
+            wider e = heldAfter e len held (drop (count * len - len) cubes) b
+
+            go : (e : Bool) → getD (wider e) i 0 ≡ heldByte (widened e here (reached circuit here)) i
             go false = unfold heldAfter widened in g .holding i l
-            go true = unfold heldAfter widened cubeAt Reached in wider-held size held (here .held) (g .holding) _ b (here .cube) (reached circuit here) (cubes-sized c words w (g .last)) reach-sized (flags-sized (g .last)) last-byte reach i l
+            go true = unfold heldAfter widened widenedBytes cubeAt in
+                front-byte held _ len i l (omega (arith, length-tabulate len (λ k. bitOr (getD held k 0) (differingByte (getD (drop (count * len - len) cubes) k 0) (getD b k 0)))))
+                ∙ getD-tabulate len _ i 0 l
+                ∙ cube-widened held (here .held) (g .holding) _ _ (here .cube) (reached circuit here) (cubes-sized c words w (g .last)) reach-sized (flags-sized (g .last)) last-byte reach i l
 
         stage-next : stage circuit w count ≡ store d here (reached circuit here)
         unfolding stage
         stage-next = ap (stage circuit w) (g .counts) ∙ ap (λ (e : Bool). store e here (reached circuit here)) (sym (isDue ∙ ap (due w) (g .counts)))
 
-        kept-next : keptBytes len (after .held) b ≡ pack (cubeAt circuit w count)
-        unfolding cubeAt store
-        kept-next =
-            kept-record size (after .held) flags held-next b (reached circuit here) reach-sized (unfold Reached in reach)
-            ∙ ap (λ (s : Stage). pack (s .cube)) (sym stage-next)
+        kept-next : keptBytes len (after .held) b ≡ packCube (cubeAt circuit w count)
+        unfolding cubeAt store keptBytes
+        kept-next = cube-kept (after .held) flags held-next _ (reached circuit here) reach-sized reach ∙ ap (λ (s : Stage). packCube (s .cube)) (sym stage-next)
 
         pub going-next : (values′ : List ℕ) → SwitchesX c values′ → count * len + len ≤ length buffer → Going (after .count) (after .held) cubes′ values′
         unfolding store
@@ -242,7 +182,7 @@ module _ (c : Counts) (words : List ℕ) (w : ℕ) (buffer : List ℕ) where
           stored =
               advanced .stores ∙ ap (λ (x : List ℕ). paste x (count * len) (keptBytes len (after .held) b) len) (g .stored)
               ∙ stored-more size (cubeAt circuit w) (cubes-sized c words w) buffer count (keptBytes len (after .held) b) kept-next room
-              ∙ ap (λ (n : ℕ). over (records (cubeAt circuit w) n) buffer) (sym (advanced .counts ∙ rw add-one));
+              ∙ ap (λ (n : ℕ). over (packCubes (cubeAt circuit w) n) buffer) (sym (advanced .counts ∙ rw add-one));
           holding = λ i l. held-next i l ∙ ap (λ (s : Stage). heldByte (s .held) i) (sym stage-next);
           ready = r;
         }

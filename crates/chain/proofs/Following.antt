@@ -8,8 +8,6 @@ use native.Mathlib.Omega.{arith}
 use lib.ListN.{length, drop, replicate}
 use lib.Seq.{paste, length-paste}
 use Rattle.three.specs.Lists.{over}
-use Rattle.three.specs.Record.{bytesFor, pack, unpack, IsRecord}
-use Rattle.three.proofs.Pack.{length-pack}
 use Rattle.circuit.specs.declared.Counts.{Counts}
 use Rattle.circuit.specs.Table.{circuitOf}
 use Rattle.circuit.specs.RulesInCode.{Legal}
@@ -17,15 +15,17 @@ use Rattle.chain.specs.declared.Progress.{Progress}
 use Rattle.chain.specs.declared.Chain.{Chain}
 use Rattle.cubes.specs.Run.{due, nextCube, cubeAt, closed, full, run}
 use Rattle.stored.specs.CubesInCode.{startFields, keptBytes, coversFrom, first, SwitchesX}
-use Rattle.cubes.specs.Call.{packedCubes, roomIn, storedCubes, backTo}
+use Rattle.cubes.specs.Call.{roomIn, storedCubes, backTo}
 use Rattle.chain.specs.ChainInCode.{Advanced, Chained, Followable}
 use Rattle.cubes.specs.OutcomesInCode.{isClosed}
 use Rattle.stored.proofs.Keeping.{length-kept, behind-one}
 use Rattle.cubes.proofs.Merging.{over-over, length-over}
 use Rattle.stored.proofs.Starting.{start-sized}
-use Rattle.cubes.proofs.Storing.{records, records-sized}
+use Rattle.cubes.proofs.Storing.{records-sized}
 use Rattle.cubes.proofs.Buffered.{cubes-sized}
 use Rattle.chain.proofs.Chaining.{Going, Reached, same-length, all-fits, last-at, last-record, reached-b, closes-at, goes-on, going-first, going-next}
+use Rattle.cubes.specs.Buffer.{cubeBytes, longestCube, packCube, IsCube, cubeOf, packCubes}
+use Rattle.cubes.proofs.StoredCube.{some-bytes as cube-some, few-bytes as cube-few, cube-long}
 use Rattle.cubes.proofs.Steps.{run-stays}
 
 module _ (c : Counts) (words : List ℕ) (w len room : ℕ) (buffer : List ℕ) (f : Followable c words len room buffer) where
@@ -33,14 +33,14 @@ module _ (c : Counts) (words : List ℕ) (w len room : ℕ) (buffer : List ℕ) 
   pub record Turn (count : ℕ) (held cubes values b : List ℕ) : Type 0 where
     pub going : Going c words w buffer count held cubes values
     pub within : count ≤ room
-    pub long : length b ≡ 128
+    pub long : length b ≡ longestCube
 
   module _ {count : ℕ} {held cubes values b : List ℕ} (t : Turn count held cubes values b) where
     abbrev g : Going c words w buffer count held cubes values
     g = t .going
 
-    pub few-bytes : len ≤ 128
-    few-bytes = omega (arith, f .size, f .legal .bounded)
+    pub few-bytes : len ≤ longestCube
+    few-bytes = omega (arith, f .size, cube-few (f .legal .bounded .latches))
 
     pub some-cubes : 1 ≤ count
     some-cubes = omega (arith, g .counts)
@@ -60,25 +60,25 @@ module _ (c : Counts) (words : List ℕ) (w len room : ℕ) (buffer : List ℕ) 
     pub place-small : (count - 1) * len ≤ 65536
     place-small = omega (arith, place-fits, kept-length, f .small)
 
-    pub place-record : IsRecord (c .latches) (drop ((count - 1) * len) cubes)
+    pub place-record : IsCube (c .latches) (drop ((count - 1) * len) cubes)
     place-record = rw (f .size, last-at c words w buffer g) (last-record c words w buffer g)
 
     -- what `reach` leaves
-    pub reached : (b′ : List ℕ) → b′ ≡ paste b 0 (keptBytes (bytesFor (c .latches)) held (pack (nextCube (circuitOf c words) (unpack (c .latches) (drop ((count - 1) * len) cubes))))) (bytesFor (c .latches))
+    pub reached : (b′ : List ℕ) → b′ ≡ paste b 0 (keptBytes (cubeBytes (c .latches)) held (packCube (nextCube (circuitOf c words) (cubeOf (c .latches) (drop ((count - 1) * len) cubes))))) (cubeBytes (c .latches))
         → Reached c words w buffer g b′
     reached b′ e = reached-b c words w buffer g b b′ (rw (f .size, last-at c words w buffer g) at e)
 
-    pub reached-long : (next b′ : List ℕ) → b′ ≡ paste b 0 (keptBytes (bytesFor (c .latches)) held next) (bytesFor (c .latches)) → length b′ ≡ 128
+    pub reached-long : (next b′ : List ℕ) → b′ ≡ paste b 0 (keptBytes (cubeBytes (c .latches)) held next) (cubeBytes (c .latches)) → length b′ ≡ longestCube
     reached-long next b′ e =
-        ap length e ∙ length-paste b 0 _ (bytesFor (c .latches)) (omega (arith, few-bytes, f .size, t .long)) (omega (arith, length-kept (bytesFor (c .latches)) held next)) ∙ t .long
+        ap length e ∙ length-paste b 0 _ (cubeBytes (c .latches)) (omega (arith, few-bytes, f .size, t .long)) (omega (arith, length-kept (cubeBytes (c .latches)) held next)) ∙ t .long
 
     module _ (b′ : List ℕ) (r : Reached c words w buffer g b′) (back : ℕ) (sought : back ≡ first count (λ k. coversFrom len cubes b′ (k * len))) where
-      sought′ : back ≡ first count (λ k. coversFrom (bytesFor (c .latches)) cubes b′ (k * bytesFor (c .latches)))
+      sought′ : back ≡ first count (λ k. coversFrom (cubeBytes (c .latches)) cubes b′ (k * cubeBytes (c .latches)))
       sought′ = rw (f .size) at sought
 
       -- the run is closed
       pub closed-now : back < count → Chained c words w buffer (record { closed = true; count = count; back = back }) cubes
-      unfolding storedCubes isClosed backTo packedCubes records
+      unfolding storedCubes isClosed backTo
       closed-now h =
           let e : run (circuitOf c words) w (roomIn c buffer) ≡ closed count back =
           rw (← (f .has-room), ← add-sub-of-le (t .within)) (run-stays (circuitOf c words) w count (room - count) count back (closes-at c words w buffer g b′ r back sought′ h)) in
@@ -89,7 +89,7 @@ module _ (c : Counts) (words : List ℕ) (w len room : ℕ) (buffer : List ℕ) 
 
       -- no room is left
       pub full-now : count ≤ back → count ≡ room → Chained c words w buffer (record { closed = false; count = count; back = 0 }) cubes
-      unfolding storedCubes isClosed backTo packedCubes records
+      unfolding storedCubes isClosed backTo
       full-now h e =
           let room= : count ≡ roomIn c buffer = e ∙ f .has-room in
           let o : run (circuitOf c words) w (roomIn c buffer) ≡ full = rw (← room=) (open-yet h) in
@@ -100,7 +100,7 @@ module _ (c : Counts) (words : List ℕ) (w len room : ℕ) (buffer : List ℕ) 
         pub next-fits : count * len + len ≤ length buffer
         unfolding roomIn
         next-fits =
-            let whole : room * len ≤ length buffer = rw (f .has-room, f .size) (div-mul-le-self (length buffer) (bytesFor (c .latches))) in
+            let whole : room * len ≤ length buffer = rw (f .has-room, f .size) (div-mul-le-self (length buffer) (cubeBytes (c .latches))) in
             let below : suc count ≤ room = omega (arith, t .within) in
             omega (arith, mul-le-mul-right len below, suc-mul count len)
 
@@ -108,12 +108,12 @@ module _ (c : Counts) (words : List ℕ) (w len room : ℕ) (buffer : List ℕ) 
         count-small = omega (arith, mul-le-mul-right count (some-bytes), mul-comm count len, one-mul count, next-fits, f .small, some-bytes)
           where
             some-bytes : 1 ≤ len
-            some-bytes = omega (arith, f .size)
+            some-bytes = omega (arith, f .size, cube-some (c .latches))
 
         pub next-fits-now : count * len + len ≤ length cubes
         next-fits-now = omega (arith, next-fits, kept-length)
 
-        pub turn-next : (after : Progress) (cubes′ values′ : List ℕ) → Advanced (due w count) len (record { count = count; held = held }) cubes b′ after cubes′ → SwitchesX c values′ → length b′ ≡ 128
+        pub turn-next : (after : Progress) (cubes′ values′ : List ℕ) → Advanced (due w count) len (record { count = count; held = held }) cubes b′ after cubes′ → SwitchesX c values′ → length b′ ≡ longestCube
             → Turn (after .count) (after .held) cubes′ values′ b′
         turn-next after cubes′ values′ a ready long′ = record {
           going = going-next c words w buffer g b′ r (due w count) refl (open-yet h) after cubes′ (rw (f .size) at a) values′ ready (rw (f .size) at next-fits);
@@ -121,28 +121,28 @@ module _ (c : Counts) (words : List ℕ) (w len room : ℕ) (buffer : List ℕ) 
           long = long′;
         }
 
-  pub turn-first : (values b : List ℕ) → SwitchesX c values → length b ≡ 128 → Turn 1 (replicate 128 0) buffer values b
+  pub turn-first : (values b : List ℕ) → SwitchesX c values → length b ≡ longestCube → Turn 1 (replicate longestCube 0) buffer values b
   unfolding roomIn
   turn-first values b r l = record {
     going = going-first c words w buffer buffer values (f .legal .bounded .latches) (f .one) (f .begun) r;
-    within = rw (f .has-room) (le-div-iff-mul-le {k = bytesFor (c .latches)} (omega arith) .1 (omega (arith, one-mul (bytesFor (c .latches)), f .one)));
+    within = rw (f .has-room) (le-div-iff-mul-le {k = cubeBytes (c .latches)} (cube-some (c .latches)) .1 (omega (arith, one-mul (cubeBytes (c .latches)), f .one)));
     long = l;
   }
 
 -- ---- cube 0 is stored first
 
-module _ (c : Counts) (words : List ℕ) (w : ℕ) (buffer cubes : List ℕ) (one : bytesFor (c .latches) ≤ length buffer) (begun : cubes ≡ over (pack (startFields words (c .latches))) buffer) where
-  start-long : length (pack (startFields words (c .latches))) ≡ bytesFor (c .latches)
-  start-long = rw (length-pack, start-sized)
+module _ (c : Counts) (words : List ℕ) (w : ℕ) (buffer cubes : List ℕ) (one : cubeBytes (c .latches) ≤ length buffer) (begun : cubes ≡ over (packCube (startFields words (c .latches))) buffer) where
+  start-long : length (packCube (startFields words (c .latches))) ≡ cubeBytes (c .latches)
+  start-long = cube-long _ (start-sized words (c .latches))
 
   start-length : length cubes ≡ length buffer
   start-length = ap length begun ∙ length-over _ buffer (omega (arith, start-long))
 
   same-room : roomIn c cubes ≡ roomIn c buffer
   unfolding roomIn
-  same-room = ap (λ (n : ℕ). n / bytesFor (c .latches)) start-length
+  same-room = ap (λ (n : ℕ). n / cubeBytes (c .latches)) start-length
 
-  pub start-followable : Legal c words → length buffer ≤ 65536 → (len room : ℕ) → len ≡ bytesFor (c .latches) → room ≡ length cubes / len → Followable c words len room cubes
+  pub start-followable : Legal c words → length buffer ≤ 65536 → (len room : ℕ) → len ≡ cubeBytes (c .latches) → room ≡ length cubes / len → Followable c words len room cubes
   unfolding roomIn
   start-followable legal small len room el er = record {
     legal = legal;
@@ -150,18 +150,17 @@ module _ (c : Counts) (words : List ℕ) (w : ℕ) (buffer cubes : List ℕ) (on
     has-room = er ∙ ap (λ (n : ℕ). length cubes / n) el;
     one = omega (arith, start-length);
     small = omega (arith, start-length);
-    begun = begun ∙ sym (ap (over (pack (startFields words (c .latches)))) begun ∙ over-over _ _ buffer (omega arith));
+    begun = begun ∙ sym (ap (over (packCube (startFields words (c .latches)))) begun ∙ over-over _ _ buffer (omega arith));
   }
 
   pub chained-from : (r : Chain) (cubes′ : List ℕ) → Chained c words w cubes r cubes′ → Chained c words w buffer r cubes′
-  unfolding packedCubes records
   chained-from r cubes′ h = record {
     closes = rw same-room at (h .closes);
     counts = rw same-room at (h .counts);
     goes-back = rw same-room at (h .goes-back);
     some = h .some;
     fills =
-        h .fills ∙ ap (over (packedCubes (circuitOf c words) w (r .count))) begun
-        ∙ over-over (pack (startFields words (c .latches))) _ buffer
-        (omega (arith, start-long, records-sized (c .latches) (cubeAt (circuitOf c words) w) (cubes-sized c words w) (r .count), behind-one (bytesFor (c .latches)) (h .some)));
+        h .fills ∙ ap (over (packCubes (cubeAt (circuitOf c words) w) (r .count))) begun
+        ∙ over-over (packCube (startFields words (c .latches))) _ buffer
+        (omega (arith, start-long, records-sized (c .latches) (cubeAt (circuitOf c words) w) (cubes-sized c words w) (r .count), behind-one (cubeBytes (c .latches)) (h .some)));
   }

@@ -11,8 +11,9 @@ use lib.ListN.{length, getD, set, drop}
 use lib.Seq.{paste, getD-drop}
 use Rattle.three.proofs.Loops.{Stored, stored-next, getD-paste}
 use Rattle.three.proofs.Lists.{length-tabulate, getD-tabulate}
+use Rattle.cubes.specs.HeldInCode.{differingByte}
 use Rattle.cubes.specs.Run.{due}
-use Rattle.chain.specs.ChainInCode.{differingByte, widenedBytes, heldAfter}
+use Rattle.chain.specs.ChainInCode.{widenedBytes, heldAfter}
 
 -- ---- a due number
 

@@ -1,4 +1,3 @@
-pub mod Pairs
 pub mod Keeping
 pub mod Chaining
 pub mod Following

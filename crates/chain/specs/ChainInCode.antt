@@ -1,36 +1,23 @@
--- How the code keeps a run: the held latches as pairs 11 of a record, one cube more, the chain; nothing here has to be believed. Assumes nothing.
+-- How the code keeps a run: held latches, one cube more, the chain; nothing here has to be believed. Assumes nothing.
 use mathlib.Core.Path.{_≡_}
 use mathlib.Core.Bool.{Bool, true, false}
 use mathlib.Core.List.{List}
-use Prim.Native.Nat.{ℕ, _+_, _*_, _-_, _/_, _≤_}
-use lib.Bits.{bitAnd, bitOr, bitXor}
+use Prim.Native.Nat.{ℕ, _+_, _*_, _-_, _≤_}
+use lib.Bits.{bitOr}
 use lib.ListN.{length, getD, drop}
 use lib.Seq.{paste}
 use Rattle.three.specs.Lists.{tabulate, over}
-use Rattle.three.specs.Record.{bytesFor, pack}
 use Rattle.circuit.specs.declared.Counts.{Counts}
 use Rattle.chain.specs.declared.Progress.{Progress}
 use Rattle.circuit.specs.Table.{circuitOf}
 use Rattle.circuit.specs.RulesInCode.{Legal}
 use Rattle.chain.specs.declared.Chain.{Chain}
-use Rattle.cubes.specs.Run.{closed, run}
-use Rattle.cubes.specs.Call.{packedCubes, roomIn, storedCubes, backTo}
+use Rattle.cubes.specs.Run.{cubeAt, run}
+use Rattle.cubes.specs.Buffer.{cubeBytes, packCube, packCubes}
+use Rattle.cubes.specs.HeldInCode.{differingByte}
+use Rattle.cubes.specs.Call.{roomIn, storedCubes, backTo}
 use Rattle.stored.specs.CubesInCode.{startFields, keptBytes}
 use Rattle.cubes.specs.OutcomesInCode.{isClosed}
-
--- a held latch is the pair 11
-unfoldable pub heldPair : Bool → ℕ
-heldPair true = 3
-heldPair false = 0
-
-unfoldable pub heldByte : List Bool → ℕ → ℕ
-heldByte held k =
-    64 * heldPair (getD held (4 * k) false) + 16 * heldPair (getD held (4 * k + 1) false)
-    + 4 * heldPair (getD held (4 * k + 2) false) + heldPair (getD held (4 * k + 3) false)
-
--- the pairs that differ in two bytes, as pairs 11
-unfoldable pub differingByte : ℕ → ℕ → ℕ
-differingByte x y = let z : ℕ = bitXor x y in 3 * bitAnd (bitOr z (z / 2)) 85
 
 -- the held latches of len bytes, with those added whose value in a and b differs
 unfoldable pub widenedBytes : ℕ → List ℕ → List ℕ → List ℕ → List ℕ
@@ -53,13 +40,13 @@ pub record Chained (c : Counts) (words : List ℕ) (w : ℕ) (buffer : List ℕ)
   pub counts : r .count ≡ storedCubes (roomIn c buffer) (run (circuitOf c words) w (roomIn c buffer))
   pub goes-back : r .back ≡ backTo (run (circuitOf c words) w (roomIn c buffer))
   pub some : 1 ≤ r .count
-  pub fills : cubes ≡ over (packedCubes (circuitOf c words) w (r .count)) buffer
+  pub fills : cubes ≡ over (packCubes (cubeAt (circuitOf c words) w) (r .count)) buffer
 
 -- cube 0 stands in a buffer of a size that 13 does not refuse
 pub record Followable (c : Counts) (words : List ℕ) (len room : ℕ) (cubes : List ℕ) : Type 0 where
   pub legal : Legal c words
-  pub size : len ≡ bytesFor (c .latches)
+  pub size : len ≡ cubeBytes (c .latches)
   pub has-room : room ≡ roomIn c cubes
-  pub one : bytesFor (c .latches) ≤ length cubes
+  pub one : cubeBytes (c .latches) ≤ length cubes
   pub small : length cubes ≤ 65536
-  pub begun : cubes ≡ over (pack (startFields words (c .latches))) cubes
+  pub begun : cubes ≡ over (packCube (startFields words (c .latches))) cubes

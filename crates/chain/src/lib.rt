@@ -1,16 +1,17 @@
 // The cubes of a run, its n and its j: widening, closing, room (document 01, Run).
 use circuit::Counts;
+use stored::LONGEST_CUBE;
 ghost use mathlib.Core.Path.{_≡_};
 ghost use mathlib.Core.Bool.{true};
 ghost use Prim.Native.Nat.{_+_, _*_, _-_, _<_, _≤_};
 ghost use lib.ListN.{length, drop};
 ghost use lib.Seq.{paste};
-ghost use Rattle.three.specs.Value.{unknown};
-ghost use Rattle.three.specs.Record.{bytesFor};
 ghost use Rattle.circuit.specs.RulesInCode.{Legal};
 ghost use Rattle.cubes.specs.Run.{due as isDue};
+ghost use Rattle.cubes.specs.Buffer.{cubeBytes, longestCube};
+ghost use Rattle.cubes.specs.HeldInCode.{differingByte};
 ghost use Rattle.stored.specs.CubesInCode.{first};
-ghost use Rattle.chain.specs.ChainInCode.{differingByte, heldAfter, widenedBytes, Advanced, Followable, Chained};
+ghost use Rattle.chain.specs.ChainInCode.{heldAfter, widenedBytes, Advanced, Followable, Chained};
 
 // "If w is not 0 and divides k"
 fn due(w: usize, k: usize) -> bool
@@ -31,8 +32,14 @@ fn differing(a: u8, b: u8) -> u8
 }
 
 // Holds every latch too whose value in the cube at byte `at` and in b differs.
-fn widen(held: [u8; 128], cubes: &[u8], at: usize, b: &[u8], len: usize) -> [u8; 128]
-    requires { ⌜ (len ≤ 128) × (at + len ≤ length (now cubes)) × (len ≤ length (now b)) ⌝ }
+fn widen(
+    held: [u8; LONGEST_CUBE],
+    cubes: &[u8],
+    at: usize,
+    b: &[u8],
+    len: usize,
+) -> [u8; LONGEST_CUBE]
+    requires { ⌜ (len ≤ longestCube) × (at + len ≤ length (now cubes)) × (len ≤ length (now b)) ⌝ }
     ensures { λ r. ⌜ r ≡ paste held 0 (widenedBytes len held (drop at (now (cubes .entry))) (now (b .entry))) len ⌝ }
 {
     let mut wider = held;
@@ -43,8 +50,15 @@ fn widen(held: [u8; 128], cubes: &[u8], at: usize, b: &[u8], len: usize) -> [u8;
 }
 
 // Which latches are held once b is stored, due or not.
-fn held_after(d: bool, held: [u8; 128], cubes: &[u8], at: usize, b: &[u8], len: usize) -> [u8; 128]
-    requires { ⌜ (len ≤ 128) × (at + len ≤ length (now cubes)) × (len ≤ length (now b)) ⌝ }
+fn held_after(
+    d: bool,
+    held: [u8; LONGEST_CUBE],
+    cubes: &[u8],
+    at: usize,
+    b: &[u8],
+    len: usize,
+) -> [u8; LONGEST_CUBE]
+    requires { ⌜ (len ≤ longestCube) × (at + len ≤ length (now cubes)) × (len ≤ length (now b)) ⌝ }
     ensures { λ r. ⌜ r ≡ heldAfter d len held (drop at (now (cubes .entry))) (now (b .entry)) ⌝ }
 {
     if !d {
@@ -56,13 +70,13 @@ fn held_after(d: bool, held: [u8; 128], cubes: &[u8], at: usize, b: &[u8], len: 
 // "how many cubes are stored, which latches are held unknown"
 pub struct Progress {
     pub count: usize,
-    pub held: [u8; 128],
+    pub held: [u8; LONGEST_CUBE],
 }
 
 impl Progress {
     // Stores b as the next cube, widened first where it is due.
     fn advance(mut self, cubes: &mut [u8], len: usize, w: usize, b: &[u8]) -> Self
-        requires { ⌜ (1 ≤ self .count) × (self .count < 65536) × (len ≤ 128) × (self .count * len + len ≤ length (now cubes)) × (len ≤ length (now b)) ⌝ }
+        requires { ⌜ (1 ≤ self .count) × (self .count < 65536) × (len ≤ longestCube) × (self .count * len + len ≤ length (now cubes)) × (len ≤ length (now b)) ⌝ }
         ensures { λ r. ⌜ Advanced (isDue w (self .count)) len self (now (cubes .entry)) (now (b .entry)) r (now (cubes .exit)) ⌝ }
     {
         let k = self.count;
@@ -96,10 +110,10 @@ fn follow(
     ensures { λ r. ⌜ Chained counts (now (table .entry)) w (now (cubes .entry)) r (now (cubes .exit)) ⌝ }
 {
     let mut values = pass::fresh_values();
-    let mut b = [0u8; 128];
+    let mut b = [0u8; LONGEST_CUBE];
     let mut progress = Progress {
         count: 1,
-        held: [0u8; 128],
+        held: [0u8; LONGEST_CUBE],
     };
     loop {
         let count = progress.count;
@@ -134,10 +148,10 @@ fn follow(
 
 // The cubes of a run, its n and its j.
 pub fn make_chain(counts: Counts, table: &[u16], w: usize, cubes: &mut [u8]) -> Chain
-    requires { ⌜ Legal counts (now table) × (bytesFor (counts .latches) ≤ length (now cubes)) × (length (now cubes) ≤ 65536) ⌝ }
+    requires { ⌜ Legal counts (now table) × (cubeBytes (counts .latches) ≤ length (now cubes)) × (length (now cubes) ≤ 65536) ⌝ }
     ensures { λ r. ⌜ Chained counts (now (table .entry)) w (now (cubes .entry)) r (now (cubes .exit)) ⌝ }
 {
-    let len = three::record_length(counts.latches);
+    let len = stored::cube_bytes(counts.latches);
     stored::store_start(table, counts.latches, cubes);
     follow(counts, table, w, len, cubes.len() / len, cubes)
 }

@@ -2,20 +2,20 @@
 use mathlib.Core.Path.{_≡_, refl, ap, ap₂, _∙_}
 use mathlib.Core.Bool.{true, false, true≢false, false≢true}
 use mathlib.Core.List.{List}
-use Prim.Native.Nat.{ℕ, zero, suc, _+_, _*_, _-_, _<_, _≤_}
+use Prim.Native.Nat.{ℕ, zero, suc, _+_, _-_, _<_, _≤_}
 use native.Mathlib.Omega.{arith}
-use lib.ListN.{length, drop, length-map}
+use lib.ListN.{length, length-map}
 use Rattle.three.specs.Lists.{over}
 use Rattle.three.specs.Cube.{Cube, merged}
-use Rattle.three.specs.Record.{bytesFor, unpack}
 use Rattle.circuit.specs.declared.Counts.{Counts}
-use Rattle.circuit.specs.Circuit.{Circuit, lamps}
+use Rattle.circuit.specs.Circuit.{Circuit, next, lamps}
 use Rattle.circuit.specs.Table.{circuitOf}
-use Rattle.cubes.specs.Run.{lampsIn, cubeAt, Ending, closed, full, run, merge, verdict, settled}
-use Rattle.cubes.specs.Call.{cubeIn, packedCubes, storedCubes, backTo, outcomeNumber}
+use Rattle.cubes.specs.Run.{nextCube, lampsIn, cubeAt, Ending, closed, full, run, merge, verdict, settled}
+use Rattle.cubes.specs.Buffer.{cubeIn, packCubes}
+use Rattle.cubes.specs.Call.{storedCubes, backTo, outcomeNumber}
 use Rattle.cubes.specs.OutcomesInCode.{isClosed}
 use Rattle.cubes.proofs.Steps.{found, Ran, stays, closes, ran}
-use Rattle.cubes.proofs.Storing.{records, stored-cube}
+use Rattle.cubes.proofs.Storing.{stored-cube}
 use Rattle.three.proofs.Lists.{length-tabulate}
 use Rattle.cubes.proofs.Wider.{cube-sized}
 
@@ -68,25 +68,28 @@ module _ (f f′ : ℕ → Cube) (n : ℕ) (same : (k : ℕ) → k < n → f k �
 
 -- ---- the cubes in the buffer
 
--- a field for each lamp
+-- a field for each lamp, and for each latch
 pub lamps-counted : (c : Counts) (words : List ℕ) (v : Cube) → length (lampsIn (circuitOf c words) v) ≡ c .lamps
 unfolding lampsIn lamps circuitOf
 lamps-counted c words v = length-map (circuitOf c words .lamps) _ ∙ length-tabulate (c .lamps) _
+
+pub latches-counted : (c : Counts) (words : List ℕ) → length (circuitOf c words .latches) ≡ c .latches
+unfolding circuitOf
+latches-counted c words = length-tabulate (c .latches) _
+
+pub next-counted : (c : Counts) (words : List ℕ) (v : Cube) → length (nextCube (circuitOf c words) v) ≡ c .latches
+unfolding nextCube next
+next-counted c words v = length-map (circuitOf c words .latches) _ ∙ latches-counted c words
 
 module _ (c : Counts) (words : List ℕ) (w : ℕ) where
   abbrev circuit : Circuit
   circuit = circuitOf c words
 
-  pub latches-sized : length (circuit .latches) ≡ c .latches
-  unfolding circuitOf
-  latches-sized = length-tabulate (c .latches) _
-
   pub cubes-sized : (k : ℕ) → length (cubeAt circuit w k) ≡ c .latches
-  cubes-sized k = cube-sized circuit w k ∙ latches-sized
+  cubes-sized k = cube-sized circuit w k ∙ latches-counted c words
 
-  module _ (buffer : List ℕ) (n : ℕ) (cubes : List ℕ) (fills : cubes ≡ over (packedCubes circuit w n) buffer) where
+  module _ (buffer : List ℕ) (n : ℕ) (cubes : List ℕ) (fills : cubes ≡ over (packCubes (cubeAt circuit w) n) buffer) where
     pub cube-in : (k : ℕ) → k < n → cubeIn (c .latches) cubes k ≡ cubeAt circuit w k
-    unfolding cubeIn packedCubes records
     cube-in k h =
-        ap (λ (l : List ℕ). unpack (c .latches) (drop (k * bytesFor (c .latches)) l)) fills
+        ap (λ (l : List ℕ). cubeIn (c .latches) l k) fills
         ∙ stored-cube (c .latches) (cubeAt circuit w) cubes-sized buffer n k h

@@ -5,6 +5,8 @@ pub mod Closes
 pub mod Places
 pub mod Cover
 pub mod Promise
+pub mod Pairs
+pub mod StoredCube
 pub mod Storing
 pub mod Merging
 pub mod Buffered

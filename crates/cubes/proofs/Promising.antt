@@ -9,7 +9,6 @@ use lib.ListN.{length}
 use Rattle.three.specs.Lists.{over}
 use Rattle.three.specs.Cube.{knownFields}
 use Rattle.three.specs.Record.{unpack}
-use Rattle.three.proofs.Lists.{length-tabulate}
 use Rattle.three.proofs.Pack.{unpack-over}
 use Rattle.circuit.specs.declared.Counts.{Counts}
 use Rattle.circuit.specs.Refusal.{leftBy}
@@ -17,12 +16,13 @@ use Rattle.circuit.specs.Table.{circuitOf}
 use Rattle.circuit.proofs.Refusals.{accepted-new}
 use Rattle.cubes.specs.declared.RunAnswer.{RunAnswer}
 use Rattle.cubes.specs.Run.{cubeAt, Ending, closed, full, verdict, settled}
-use Rattle.cubes.specs.Call.{cubeIn, packedCubes, roomIn, storedCubes, outcomeNumber, RunGiven, refusedBy, circuitIn, outcomeIn, cubesIn, backIn, verdictFields, settledFields, Runs}
+use Rattle.cubes.specs.Buffer.{cubeIn, packCubes}
+use Rattle.cubes.specs.Call.{roomIn, storedCubes, outcomeNumber, RunGiven, refusedBy, circuitIn, outcomeIn, cubesIn, backIn, verdictFields, settledFields, Runs}
 use Rattle.cubes.specs.OutcomesInCode.{isClosed}
 use Rattle.cubes.specs.Promise.{mostCubes, Covered, Promises}
 use Rattle.cubes.proofs.Promise.{resets-start, covered-early, covered-late, lamp-judged, latch-settled}
 use Rattle.cubes.proofs.Closes.{run-closes, most-within}
-use Rattle.cubes.proofs.Buffered.{cubes-sized, lamps-counted, closed-is, closed-within, cube-in}
+use Rattle.cubes.proofs.Buffered.{cubes-sized, lamps-counted, closed-is, closed-within, cube-in, latches-counted}
 use Rattle.cubes.proofs.Wider.{merge-sized}
 
 -- ---- number 0 says: not refused, and closed
@@ -85,7 +85,7 @@ module _ (g : RunGiven) (r : RunAnswer) (cubes verdict′ settled′ : List ℕ)
     unfolding circuitIn
     cube-is k h =
         sym (cube-in (g .counts) (g .table) (g .w) (g .cubes) (r .cubes) cubes
-        (runs .fills-cubes ∙ taken _ _ ∙ ap (λ (n : ℕ). over (packedCubes (circuitIn g) (g .w) n) (g .cubes)) (sym n-is)) k h)
+        (runs .fills-cubes ∙ taken _ _ ∙ ap (λ (n : ℕ). over (packCubes (cubeAt (circuitIn g) (g .w)) n) (g .cubes)) (sym n-is)) k h)
 
     pub verdict-is : unpack (g .counts .lamps) verdict′ ≡ verdict (circuitIn g) (cubeAt (circuitIn g) (g .w)) (r .cubes)
     unfolding verdictFields circuitIn
@@ -124,8 +124,8 @@ module _ (g : RunGiven) (r : RunAnswer) (cubes verdict′ settled′ : List ℕ)
   only-full ok h = number-says (outcomeIn g) (runs .answers ∙ sym (accepted-new (refusedBy g) _ _ ok)) h
 
   latches-sized : length (circuitIn g .latches) ≡ g .counts .latches
-  unfolding circuitIn circuitOf
-  latches-sized = length-tabulate (g .counts .latches) _
+  unfolding circuitIn
+  latches-sized = latches-counted (g .counts) (g .table)
 
   run-sharply : refusedBy g ≡ 0 → 1 ≤ g .w → mostCubes (g .w) (g .counts .latches) ≤ roomIn (g .counts) (g .cubes)
       → (r .number ≡ 0) × (r .cubes ≤ mostCubes (g .w) (g .counts .latches))

@@ -1,5 +1,5 @@
 -- Cubes one after the other in a buffer: where each stands, and what one more adds. Assumes nothing.
-use mathlib.Core.Path.{_≡_, sym, ap, ap₂, _∙_}
+use mathlib.Core.Path.{_≡_, refl, sym, ap, ap₂, _∙_}
 use mathlib.Core.List.{List, _++_, append-assoc, append-nil, flatMap}
 use Prim.Native.Nat.{ℕ, zero, suc, _+_, _*_, _<_, _≤_}
 use native.Mathlib.Nat.{zero-mul, suc-mul, mul-le-mul-right, le-of-suc-le-suc, not-suc-le-zero}
@@ -8,40 +8,36 @@ use lib.ListN.{length, getD, take, drop, length-append, length-drop}
 use lib.Seq.{paste, take-at, drop-at, drop-drop, take-all, getD-take, getD-drop}
 use Rattle.three.specs.Lists.{tabulate, over}
 use Rattle.three.specs.Cube.{Cube}
-use Rattle.three.specs.Record.{bytesFor, pack, unpack, sound, IsRecord}
-use Rattle.three.proofs.Pack.{length-pack, unpack-pack, unpack-take}
-use Rattle.three.proofs.Soundness.{sound-pack, sound-take}
+use Rattle.cubes.specs.Buffer.{cubeBytes, packCube, IsCube, cubeIn, packCubes}
+use Rattle.cubes.proofs.StoredCube.{cube-at, cube-long, cube-read, cube-sound}
 
 -- ---- the records of cubes 0 to n − 1
 
-unfoldable pub records : (ℕ → Cube) → ℕ → List ℕ
-records cubes n = flatMap pack (tabulate n cubes)
-
 module _ (size : ℕ) where
   abbrev len : ℕ
-  len = bytesFor size
+  len = cubeBytes size
 
-  pub records-sized : (cubes : ℕ → Cube) → ((k : ℕ) → length (cubes k) ≡ size) → (n : ℕ) → length (records cubes n) ≡ n * len
-  unfolding records flatMap tabulate
+  pub records-sized : (cubes : ℕ → Cube) → ((k : ℕ) → length (cubes k) ≡ size) → (n : ℕ) → length (packCubes cubes n) ≡ n * len
+  unfolding packCubes flatMap tabulate
   records-sized cubes sized zero = rw zero-mul
   records-sized cubes sized (suc n) =
-      rw (length-append, length-pack, sized 0) (omega (arith, records-sized (λ k. cubes (suc k)) (λ k. sized (suc k)) n, suc-mul n len))
+      rw (length-append, cube-long _ (sized 0)) (omega (arith, records-sized (λ k. cubes (suc k)) (λ k. sized (suc k)) n, suc-mul n len))
 
   -- record number k
-  pub record-at : (cubes : ℕ → Cube) → ((k : ℕ) → length (cubes k) ≡ size) → (n k : ℕ) (rest : List ℕ) → k < n → take len (drop (k * len) (records cubes n ++ rest)) ≡ pack (cubes k)
-  unfolding records flatMap tabulate
+  pub record-at : (cubes : ℕ → Cube) → ((k : ℕ) → length (cubes k) ≡ size) → (n k : ℕ) (rest : List ℕ) → k < n → take len (drop (k * len) (packCubes cubes n ++ rest)) ≡ packCube (cubes k)
+  unfolding packCubes flatMap tabulate
   record-at cubes sized zero k rest h = absurd (not-suc-le-zero h)
-  record-at cubes sized (suc n) zero rest h = rw (zero-mul, append-assoc) (take-at (pack (cubes 0)) _ len (rw (length-pack, sized 0)))
+  record-at cubes sized (suc n) zero rest h = rw (zero-mul, append-assoc) (take-at (packCube (cubes 0)) _ len (cube-long _ (sized 0)))
   record-at cubes sized (suc n) (suc k) rest h =
       let e : suc k * len ≡ len + k * len = omega (arith, suc-mul k len) in
-      rw (e, append-assoc, ← drop-drop (k * len) len _, drop-at (pack (cubes 0)) _ len (rw (length-pack, sized 0)))
+      rw (e, append-assoc, ← drop-drop (k * len) len _, drop-at (packCube (cubes 0)) _ len (cube-long _ (sized 0)))
       (record-at (λ i. cubes (suc i)) (λ i. sized (suc i)) n k rest (le-of-suc-le-suc h))
 
   -- one record more
-  pub records-snoc : (cubes : ℕ → Cube) (n : ℕ) → records cubes (suc n) ≡ records cubes n ++ pack (cubes n)
-  unfolding records flatMap tabulate
-  records-snoc cubes zero = append-nil (pack (cubes 0))
-  records-snoc cubes (suc n) = ap (λ l. pack (cubes 0) ++ l) (records-snoc (λ k. cubes (suc k)) n) ∙ sym (append-assoc (pack (cubes 0)) _ _)
+  pub records-snoc : (cubes : ℕ → Cube) (n : ℕ) → packCubes cubes (suc n) ≡ packCubes cubes n ++ packCube (cubes n)
+  unfolding packCubes flatMap tabulate
+  records-snoc cubes zero = append-nil (packCube (cubes 0))
+  records-snoc cubes (suc n) = ap (λ l. packCube (cubes 0) ++ l) (records-snoc (λ k. cubes (suc k)) n) ∙ sym (append-assoc (packCube (cubes 0)) _ _)
 
 -- ---- a buffer that begins with them
 
@@ -55,30 +51,26 @@ over-snoc s t d at n es et h =
     (sym (drop-drop n at (s ++ drop (length s) d)) ∙ ap (drop n) (drop-at s _ at es) ∙ drop-drop n (length s) d ∙ ap (λ (k : ℕ). drop k d) beyond)
 
 module _ (size : ℕ) (cubes : ℕ → Cube) (sized : (k : ℕ) → length (cubes k) ≡ size) (buffer : List ℕ) where
-  pub stored-more : (n : ℕ) (bytes : List ℕ) → bytes ≡ pack (cubes n) → n * bytesFor size + bytesFor size ≤ length buffer
-      → paste (over (records cubes n) buffer) (n * bytesFor size) bytes (bytesFor size) ≡ over (records cubes (suc n)) buffer
+  pub stored-more : (n : ℕ) (bytes : List ℕ) → bytes ≡ packCube (cubes n) → n * cubeBytes size + cubeBytes size ≤ length buffer
+      → paste (over (packCubes cubes n) buffer) (n * cubeBytes size) bytes (cubeBytes size) ≡ over (packCubes cubes (suc n)) buffer
   stored-more n bytes e room =
       rw (records-snoc size cubes n, e)
-      (over-snoc (records cubes n) (pack (cubes n)) buffer _ _ (records-sized size cubes sized n) (rw (length-pack, sized n)) room)
+      (over-snoc (packCubes cubes n) (packCube (cubes n)) buffer _ _ (records-sized size cubes sized n) (cube-long _ (sized n)) room)
 
   module _ (n k : ℕ) (h : k < n) where
-    stored-record : take (bytesFor size) (drop (k * bytesFor size) (over (records cubes n) buffer)) ≡ pack (cubes k)
+    stored-record : take (cubeBytes size) (drop (k * cubeBytes size) (over (packCubes cubes n) buffer)) ≡ packCube (cubes k)
     unfolding over
     stored-record = record-at size cubes sized n k _ h
 
-    -- its fields
-    pub stored-cube : unpack size (drop (k * bytesFor size) (over (records cubes n) buffer)) ≡ cubes k
-    stored-cube =
-        sym (unpack-take size _) ∙ ap (unpack size) stored-record
-        ∙ ap (λ (f : ℕ). unpack f (pack (cubes k))) (sym (sized k)) ∙ unpack-pack (cubes k)
+    pub stored-cube : cubeIn size (over (packCubes cubes n) buffer) k ≡ cubes k
+    stored-cube = sym (cube-at size refl _ k) ∙ cube-read _ (sized k) _ stored-record
 
-    pub stored-sound : n * bytesFor size ≤ length buffer → IsRecord size (drop (k * bytesFor size) (over (records cubes n) buffer))
+    pub stored-sound : n * cubeBytes size ≤ length buffer → IsCube size (drop (k * cubeBytes size) (over (packCubes cubes n) buffer))
     unfolding over
-    stored-sound room = record {
-      fits = rw (length-drop, length-append, length-drop, records-sized size cubes sized n) (omega (arith, mul-le-mul-right (bytesFor size) h, suc-mul k (bytesFor size)));
-      good = sym (sound-take size _) ∙ ap (sound size) stored-record ∙ ap (λ (f : ℕ). sound f (pack (cubes k))) (sym (sized k)) ∙ sound-pack (cubes k);
-    }
+    stored-sound room =
+        cube-sound _ (sized k) _ stored-record
+        (rw (length-drop, length-append, length-drop, records-sized size cubes sized n) (omega (arith, mul-le-mul-right (cubeBytes size) h, suc-mul k (cubeBytes size))))
 
     -- its bytes
-    pub stored-byte : (i : ℕ) → i < bytesFor size → getD (over (records cubes n) buffer) (k * bytesFor size + i) 0 ≡ getD (pack (cubes k)) i 0
-    stored-byte i l = sym (getD-drop (k * bytesFor size) _ i 0) ∙ sym (getD-take (bytesFor size) _ i 0 l) ∙ ap (λ (x : List ℕ). getD x i 0) stored-record
+    pub stored-byte : (i : ℕ) → i < cubeBytes size → getD (over (packCubes cubes n) buffer) (k * cubeBytes size + i) 0 ≡ getD (packCube (cubes k)) i 0
+    stored-byte i l = sym (getD-drop (k * cubeBytes size) _ i 0) ∙ sym (getD-take (cubeBytes size) _ i 0 l) ∙ ap (λ (x : List ℕ). getD x i 0) stored-record

@@ -1,32 +1,25 @@
 -- The public run (document 01, Run): its refusals in order, what it answers, and what it leaves. Assumes nothing.
 use mathlib.Core.Path.{_≡_}
-use mathlib.Core.List.{List, [], _∷_, _++_, flatMap}
-use Prim.Native.Nat.{ℕ, _*_, _/_}
+use mathlib.Core.List.{List, [], _∷_, _++_}
+use Prim.Native.Nat.{ℕ, _/_}
 use lib.Dec.{leb}
-use lib.ListN.{length, drop}
-use Rattle.three.specs.Lists.{over, tabulate}
+use lib.ListN.{length}
+use Rattle.three.specs.Lists.{over}
 use Rattle.three.specs.Cube.{Cube, knownFields}
-use Rattle.three.specs.Record.{bytesFor, pack, unpack}
+use Rattle.three.specs.Record.{bytesFor, pack}
 use Rattle.circuit.specs.declared.Counts.{Counts}
 use Rattle.circuit.specs.Circuit.{Circuit}
 use Rattle.circuit.specs.Refusal.{Test, _or_, refusal, leftBy}
 use Rattle.circuit.specs.Table.{circuitOf, boardTests}
 use Rattle.cubes.specs.declared.RunAnswer.{RunAnswer}
+use Rattle.cubes.specs.Buffer.{cubeBytes, packCubes}
 use Rattle.cubes.specs.Run.{cubeAt, Ending, closed, full, run, verdict, settled}
 
 -- ---- cubes in the buffer
 
--- cube number k starts at byte k × record length
-unfoldable pub cubeIn : ℕ → List ℕ → ℕ → Cube
-cubeIn latches buffer k = unpack latches (drop (k * bytesFor latches) buffer)
-
--- the first n cubes of a run, as they stand in the buffer
-unfoldable pub packedCubes : Circuit → ℕ → ℕ → List ℕ
-packedCubes c w n = flatMap pack (tabulate n (cubeAt c w))
-
 -- "Room is cube buffer bytes / record length, rounded down."
 unfoldable pub roomIn : Counts → List ℕ → ℕ
-roomIn c buffer = length buffer / bytesFor (c .latches)
+roomIn c buffer = length buffer / cubeBytes (c .latches)
 
 -- how many cubes are stored: n, or all that there is room for
 unfoldable pub storedCubes : ℕ → Ending → ℕ
@@ -53,7 +46,7 @@ unfoldable pub runTests : Counts → List ℕ → ℕ → ℕ → ℕ → ℕ �
 runTests c table w cubes verdict settled =
     boardTests c table
     ++ (leb w 1000 or 12
-    ∷ leb (bytesFor (c .latches)) cubes or 13
+    ∷ leb (cubeBytes (c .latches)) cubes or 13
     ∷ leb cubes 65536 or 13
     ∷ runResultTests c verdict settled)
 
@@ -98,6 +91,6 @@ pub record Runs (g : RunGiven) (r : RunAnswer) (cubes verdict settled : List ℕ
   pub counts : r .cubes ≡ leftBy (refusedBy g) (cubesIn g) 0
   pub goes-back : r .back ≡ leftBy (refusedBy g) (backIn g) 0
   pub settles : r .settled ≡ leftBy (r .number) (knownFields (settledFields g)) 0
-  pub fills-cubes : cubes ≡ leftBy (refusedBy g) (over (packedCubes (circuitIn g) (g .w) (cubesIn g)) (g .cubes)) (g .cubes)
+  pub fills-cubes : cubes ≡ leftBy (refusedBy g) (over (packCubes (cubeAt (circuitIn g) (g .w)) (cubesIn g)) (g .cubes)) (g .cubes)
   pub fills-verdict : verdict ≡ leftBy (r .number) (over (pack (verdictFields g)) (g .verdict)) (g .verdict)
   pub fills-settled : settled ≡ leftBy (r .number) (over (pack (settledFields g)) (g .settled)) (g .settled)

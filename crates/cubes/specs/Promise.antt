@@ -8,7 +8,8 @@ use Rattle.three.specs.Value.{unknown, known}
 use Rattle.three.specs.Cube.{_∋_}
 use Rattle.three.specs.Record.{unpack}
 use Rattle.cubes.specs.declared.RunAnswer.{RunAnswer}
-use Rattle.cubes.specs.Call.{cubeIn, RunGiven, circuitIn, roomIn, refusedBy}
+use Rattle.cubes.specs.Buffer.{cubeIn}
+use Rattle.cubes.specs.Call.{RunGiven, circuitIn, roomIn, refusedBy}
 use Rattle.cubes.specs.Execution.{stateAfter, lampsAfter, resets}
 
 -- the most cubes that a run takes with w at least 1: one where there is no latch, else w and one for each latch

@@ -9,13 +9,14 @@ use lib.Seq.{paste, getD-drop}
 use Rattle.three.specs.Lists.{over}
 use Rattle.three.specs.Cube.{Cube, merged, knownFields}
 use Rattle.three.specs.Record.{bytesFor, pack, unpack, IsRecord}
-use Rattle.three.proofs.Pack.{length-pack, length-unpack, unpack-over}
-use Rattle.three.proofs.Soundness.{record-over, pack-unpack}
+use Rattle.three.proofs.Pack.{length-pack, unpack-over}
+use Rattle.three.proofs.Soundness.{record-over}
 use Rattle.circuit.specs.declared.Counts.{Counts}
 use Rattle.circuit.specs.Circuit.{Circuit, lamps}
 use Rattle.circuit.specs.Table.{circuitOf}
 use Rattle.cubes.specs.Run.{lampsIn, merge, verdict, settled}
-use Rattle.cubes.specs.Call.{cubeIn}
+use Rattle.cubes.specs.Buffer.{cubeBytes, IsCube, cubeOf, cubeIn}
+use Rattle.cubes.proofs.StoredCube.{cube-bytes, cube-fields, cube-record as is-record, cube-in-sized, cube-repacked, cube-at}
 use Rattle.judge.specs.JudgeInCode.{Judgeable, Settleable}
 use Rattle.cubes.proofs.Wider.{merge-sized}
 use Rattle.stored.proofs.Reaching.{part-tail}
@@ -52,11 +53,7 @@ module _ (c : Counts) (words : List ℕ) (len n : ℕ) (cubes : List ℕ) (j : J
   lamps-long : (k : ℕ) → length (pack (lampsAt k)) ≡ bytesFor (c .lamps)
   lamps-long k = rw (length-pack, lamps-sized c words cubes k)
 
-  here : (k : ℕ) → unpack (c .latches) (drop (k * len) cubes) ≡ cubeIn (c .latches) cubes k
-  unfolding cubeIn
-  here k = ap (λ (m : ℕ). unpack (c .latches) (drop (k * m) cubes)) (j .size)
-
-  pub first-cube : IsRecord (c .latches) cubes
+  pub first-cube : IsCube (c .latches) cubes
   first-cube = rw zero-mul at (j .cube 0 (j .some))
 
   pub few-lamps : bytesFor (c .lamps) ≤ 16
@@ -68,9 +65,9 @@ module _ (c : Counts) (words : List ℕ) (len n : ℕ) (cubes : List ℕ) (j : J
   pub lamp-place : (k : ℕ) → k < n → k * len ≤ length cubes
   lamp-place k h = omega (arith, place-below n len k (length cubes) h (j .fits))
 
-  module _ (begun : List ℕ) (first : begun ≡ over (pack (lampsIn circuit (unpack (c .latches) cubes))) entry) where
+  module _ (begun : List ℕ) (first : begun ≡ over (pack (lampsIn circuit (cubeOf (c .latches) cubes))) entry) where
     begun-with : begun ≡ over (pack (lampsAt 0)) entry
-    begun-with = first ∙ ap (λ (v : Cube). over (pack (lampsIn circuit v)) entry) (ap (λ (m : ℕ). unpack (c .latches) (drop m cubes)) (sym (zero-mul len)) ∙ here 0)
+    begun-with = first ∙ ap (λ (v : Cube). over (pack (lampsIn circuit v)) entry) (ap (λ (m : ℕ). cubeOf (c .latches) (drop m cubes)) (sym (zero-mul len)) ∙ cube-at _ (j .size) cubes 0)
 
     begun-long : length begun ≡ length entry
     begun-long = ap length begun-with ∙ length-over _ entry (omega (arith, lamps-long 0))
@@ -87,9 +84,9 @@ module _ (c : Counts) (words : List ℕ) (len n : ℕ) (cubes : List ℕ) (j : J
     pub judged-length : (e : List ℕ) (k : ℕ) → Judged c words cubes begun e k → length e ≡ length entry
     judged-length e k m = merged-length _ _ _ _ _ room′ e k m ∙ begun-long
 
-    module _ (k : ℕ) (lamps₀ lamps₁ : List ℕ) (wide : bytesFor (c .lamps) ≤ length lamps₀) (read : lamps₁ ≡ over (pack (lampsIn circuit (unpack (c .latches) (drop (k * len) cubes)))) lamps₀) where
+    module _ (k : ℕ) (lamps₀ lamps₁ : List ℕ) (wide : bytesFor (c .lamps) ≤ length lamps₀) (read : lamps₁ ≡ over (pack (lampsIn circuit (cubeOf (c .latches) (drop (k * len) cubes)))) lamps₀) where
       read-of : lamps₁ ≡ over (pack (lampsAt k)) lamps₀
-      read-of = read ∙ ap (λ (v : Cube). over (pack (lampsIn circuit v)) lamps₀) (here k)
+      read-of = read ∙ ap (λ (v : Cube). over (pack (lampsIn circuit v)) lamps₀) (cube-at _ (j .size) cubes k)
 
       pub lamps-record : IsRecord (c .lamps) lamps₁
       lamps-record = rw read-of (record-over (c .lamps) (lampsAt k) lamps₀ (lamps-sized c words cubes k) wide)
@@ -121,27 +118,19 @@ copy-next cubes at len out₀ out i from room s h =
 -- ---- the latches
 
 module _ (latches : ℕ) (cubes : List ℕ) where
-  pub cubeIn-sized : (k : ℕ) → length (cubeIn latches cubes k) ≡ latches
-  unfolding cubeIn
-  cubeIn-sized k = length-unpack latches _
-
   -- the loop's invariant, from what the buffer held where it begins
   abbrev pub Settled : ℕ → List ℕ → List ℕ → ℕ → Type 0
-  Settled j begun e k = Merged latches (cubeIn latches cubes) cubeIn-sized j begun e k
+  Settled j begun e k = Merged latches (cubeIn latches cubes) (cube-in-sized latches cubes) j begun e k
 
 module _ (latches len n j : ℕ) (cubes : List ℕ) (s : Settleable latches len n j cubes) (entry : List ℕ) (room : bytesFor latches ≤ length entry) where
   pub latch-place : (k : ℕ) → k < n → k * len + len ≤ length cubes
   latch-place k h = place-below n len k (length cubes) h (s .fits)
 
   pub cube-record : (k : ℕ) → k < n → IsRecord latches (take (length cubes - k * len) (drop (k * len) cubes))
-  cube-record k h = rw part-tail (s .cube k h)
-
-  in-place : (k : ℕ) → unpack latches (drop (k * len) cubes) ≡ cubeIn latches cubes k
-  unfolding cubeIn
-  in-place k = ap (λ (m : ℕ). unpack latches (drop (k * m) cubes)) (s .size)
+  cube-record k h = rw part-tail (is-record _ _ (s .cube k h))
 
   cube-long : (k : ℕ) → length (pack (cubeIn latches cubes k)) ≡ bytesFor latches
-  cube-long k = rw (length-pack, cubeIn-sized latches cubes k)
+  cube-long k = rw (length-pack, cube-in-sized latches cubes k)
 
   module _ (small : (i : ℕ) → getD cubes i 0 < 256) (begun : List ℕ) (copied : begun ≡ paste entry 0 (drop (j * len) cubes) len) where
     latches-begun : begun ≡ over (pack (cubeIn latches cubes j)) entry
@@ -149,9 +138,9 @@ module _ (latches len n j : ℕ) (cubes : List ℕ) (s : Settleable latches len 
     latches-begun =
         let first : take len (drop (j * len) cubes) ≡ pack (cubeIn latches cubes j) =
         ap (λ (m : ℕ). take m (drop (j * len) cubes)) (s .size)
-        ∙ sym (pack-unpack latches (drop (j * len) cubes) (s .cube j (s .below) .fits) (λ i. rw getD-drop (small (j * len + i))) (s .cube j (s .below) .good))
-        ∙ ap pack (in-place j) in
-        let rest : 0 + len ≡ length (pack (cubeIn latches cubes j)) = omega (arith, cube-long j, s .size) in
+        ∙ cube-repacked latches (drop (j * len) cubes) (s .cube j (s .below)) (λ i. rw getD-drop (small (j * len + i)))
+        ∙ ap pack (cube-at latches (s .size) cubes j) in
+        let rest : 0 + len ≡ length (pack (cubeIn latches cubes j)) = omega (arith, cube-long j, s .size, cube-bytes latches) in
         copied ∙ ap₂ (λ (x : List ℕ) (m : ℕ). x ++ drop m entry) first rest
 
     latches-long : length begun ≡ length entry
@@ -171,7 +160,7 @@ module _ (latches len n j : ℕ) (cubes : List ℕ) (s : Settleable latches len 
 
     pub settled-next : (e e′ : List ℕ) (k : ℕ) → Settled latches cubes j begun e k
         → e′ ≡ over (pack (merged (unpack latches e) (unpack latches (take (length cubes - k * len) (drop (k * len) cubes))))) e → Settled latches cubes j begun e′ (k + 1)
-    settled-next e e′ k m ee = merged-next _ _ _ _ _ room″ e e′ k _ m (rw part-tail (in-place k)) ee
+    settled-next e e′ k m ee = merged-next _ _ _ _ _ room″ e e′ k _ m (rw part-tail (cube-fields latches _ ∙ cube-at latches (s .size) cubes k)) ee
 
     pub settled-last : (e : List ℕ) (k : ℕ) → Settled latches cubes j begun e k → k ≡ n → e ≡ over (pack (settled (cubeIn latches cubes) n j)) entry
     unfolding settled
@@ -181,24 +170,24 @@ module _ (latches len n j : ℕ) (cubes : List ℕ) (s : Settleable latches len 
         ∙ over-over (pack (cubeIn latches cubes j)) _ entry (omega (arith, cube-long j, merged-long))
       where
         merged-long : length (pack (merge (cubeIn latches cubes) j (n - 1 - j))) ≡ bytesFor latches
-        merged-long = rw (length-pack, merge-sized (cubeIn latches cubes) latches (cubeIn-sized latches cubes) j (n - 1 - j))
+        merged-long = rw (length-pack, merge-sized (cubeIn latches cubes) latches (cube-in-sized latches cubes) j (n - 1 - j))
 
 -- ---- the judge
 
-module _ (c : Counts) (words : List ℕ) (n : ℕ) (cubes : List ℕ) (j : Judgeable c words (bytesFor (c .latches)) n cubes) where
-  pub judgeable-len : (len : ℕ) → len ≡ bytesFor (c .latches) → Judgeable c words len n cubes
+module _ (c : Counts) (words : List ℕ) (n : ℕ) (cubes : List ℕ) (j : Judgeable c words (cubeBytes (c .latches)) n cubes) where
+  pub judgeable-len : (len : ℕ) → len ≡ cubeBytes (c .latches) → Judgeable c words len n cubes
   judgeable-len len e = rw e j
 
-  pub settleable : (len : ℕ) → len ≡ bytesFor (c .latches) → (k : ℕ) → k < n → Settleable (c .latches) len n k cubes
+  pub settleable : (len : ℕ) → len ≡ cubeBytes (c .latches) → (k : ℕ) → k < n → Settleable (c .latches) len n k cubes
   settleable len e k h = rw e (record { few = j .legal .bounded .latches; size = refl; below = h; fits = j .fits; cube = j .cube })
 
   pub settled-record-of : (k : ℕ) (entry exit : List ℕ) → bytesFor (c .latches) ≤ length entry → exit ≡ over (pack (settled (cubeIn (c .latches) cubes) n k)) entry → IsRecord (c .latches) exit
   unfolding settled
-  settled-record-of k entry exit room e = rw e (record-over (c .latches) _ entry (merge-sized (cubeIn (c .latches) cubes) (c .latches) (cubeIn-sized (c .latches) cubes) k (n - 1 - k)) room)
+  settled-record-of k entry exit room e = rw e (record-over (c .latches) _ entry (merge-sized (cubeIn (c .latches) cubes) (c .latches) (cube-in-sized (c .latches) cubes) k (n - 1 - k)) room)
 
   pub settled-known : (k s : ℕ) (entry exit : List ℕ) → exit ≡ over (pack (settled (cubeIn (c .latches) cubes) n k)) entry → s ≡ knownFields (unpack (c .latches) exit)
       → s ≡ knownFields (settled (cubeIn (c .latches) cubes) n k)
   unfolding settled
   settled-known k s entry exit e es =
       es ∙ ap (λ (l : List ℕ). knownFields (unpack (c .latches) l)) e
-      ∙ ap knownFields (unpack-over (c .latches) _ entry (merge-sized (cubeIn (c .latches) cubes) (c .latches) (cubeIn-sized (c .latches) cubes) k (n - 1 - k)))
+      ∙ ap knownFields (unpack-over (c .latches) _ entry (merge-sized (cubeIn (c .latches) cubes) (c .latches) (cube-in-sized (c .latches) cubes) k (n - 1 - k)))

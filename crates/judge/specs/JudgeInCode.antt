@@ -5,28 +5,28 @@ use Prim.Native.Nat.{ℕ, _*_, _<_, _≤_}
 use lib.ListN.{length, drop}
 use Rattle.three.specs.Lists.{over}
 use Rattle.three.specs.Cube.{knownFields}
-use Rattle.three.specs.Record.{bytesFor, pack, IsRecord}
+use Rattle.three.specs.Record.{pack}
 use Rattle.circuit.specs.declared.Counts.{Counts}
 use Rattle.circuit.specs.Table.{circuitOf}
 use Rattle.circuit.specs.RulesInCode.{Legal}
 use Rattle.cubes.specs.Run.{verdict, settled}
-use Rattle.cubes.specs.Call.{cubeIn}
+use Rattle.cubes.specs.Buffer.{cubeBytes, IsCube, cubeIn}
 
--- n cubes stand in the buffer, each a record
+-- n cubes stand in the buffer, each a cube
 pub record Judgeable (c : Counts) (words : List ℕ) (len n : ℕ) (cubes : List ℕ) : Type 0 where
   pub legal : Legal c words
-  pub size : len ≡ bytesFor (c .latches)
+  pub size : len ≡ cubeBytes (c .latches)
   pub some : 1 ≤ n
   pub fits : n * len ≤ length cubes
-  pub cube : (k : ℕ) → k < n → IsRecord (c .latches) (drop (k * len) cubes)
+  pub cube : (k : ℕ) → k < n → IsCube (c .latches) (drop (k * len) cubes)
 
 -- the same for latches alone, from cube j on
 pub record Settleable (latches len n j : ℕ) (cubes : List ℕ) : Type 0 where
   pub few : latches ≤ 512
-  pub size : len ≡ bytesFor latches
+  pub size : len ≡ cubeBytes latches
   pub below : j < n
   pub fits : n * len ≤ length cubes
-  pub cube : (k : ℕ) → k < n → IsRecord latches (drop (k * len) cubes)
+  pub cube : (k : ℕ) → k < n → IsCube latches (drop (k * len) cubes)
 
 -- what the judge leaves and answers
 pub record Judgement (c : Counts) (words cubes : List ℕ) (n j : ℕ) (verdict₀ settled₀ : List ℕ) (s : ℕ) (verdict₁ settled₁ : List ℕ) : Type 0 where

@@ -6,11 +6,11 @@ ghost use Prim.Native.Nat.{_+_, _*_, _-_, _<_, _≤_};
 ghost use lib.ListN.{length, drop};
 ghost use lib.Seq.{paste};
 ghost use Rattle.three.specs.Lists.{over};
-ghost use Rattle.three.specs.Record.{bytesFor, pack, unpack, IsRecord};
+ghost use Rattle.three.specs.Record.{bytesFor, pack};
 ghost use Rattle.circuit.specs.Table.{circuitOf};
 ghost use Rattle.circuit.specs.RulesInCode.{Legal};
 ghost use Rattle.cubes.specs.Run.{lampsIn, verdict as verdictOf, settled as settledOf};
-ghost use Rattle.cubes.specs.Call.{cubeIn};
+ghost use Rattle.cubes.specs.Buffer.{cubeBytes, IsCube, cubeOf, cubeIn};
 ghost use Rattle.stored.specs.CubesInCode.{SwitchesX};
 ghost use Rattle.judge.specs.JudgeInCode.{Judgeable, Settleable, Judgement};
 
@@ -23,10 +23,10 @@ fn lamps_at(
     values: &mut Values,
     out: &mut [u8],
 )
-    requires { ⌜ Legal counts (now table) × (at ≤ length (now cubes)) × IsRecord (counts .latches) (drop at (now cubes)) × SwitchesX counts (now values) × (bytesFor (counts .lamps) ≤ length (now out)) ⌝ }
-    ensures { λ _. ⌜ SwitchesX counts (now (values .exit)) × (now (out .exit) ≡ over (pack (lampsIn (circuitOf counts (now (table .entry))) (unpack (counts .latches) (drop at (now (cubes .entry)))))) (now (out .entry))) ⌝ }
+    requires { ⌜ Legal counts (now table) × (at ≤ length (now cubes)) × IsCube (counts .latches) (drop at (now cubes)) × SwitchesX counts (now values) × (bytesFor (counts .lamps) ≤ length (now out)) ⌝ }
+    ensures { λ _. ⌜ SwitchesX counts (now (values .exit)) × (now (out .exit) ≡ over (pack (lampsIn (circuitOf counts (now (table .entry))) (cubeOf (counts .latches) (drop at (now (cubes .entry)))))) (now (out .entry))) ⌝ }
 {
-    pass::settle_state(counts, table, &cubes[at..], values);
+    stored::settle_cube(counts, table, cubes, at, values);
     pass::store(values, table, 2 * counts.latches, 1, counts.lamps, out);
 }
 
@@ -82,10 +82,10 @@ pub fn judge(
     verdict: &mut [u8],
     settled: &mut [u8],
 ) -> usize
-    requires { ⌜ Judgeable counts (now table) (bytesFor (counts .latches)) n (now cubes) × (j < n) × (bytesFor (counts .lamps) ≤ length (now verdict)) × (bytesFor (counts .latches) ≤ length (now settled)) ⌝ }
+    requires { ⌜ Judgeable counts (now table) (cubeBytes (counts .latches)) n (now cubes) × (j < n) × (bytesFor (counts .lamps) ≤ length (now verdict)) × (bytesFor (counts .latches) ≤ length (now settled)) ⌝ }
     ensures { λ r. ⌜ Judgement counts (now (table .entry)) (now (cubes .entry)) n j (now (verdict .entry)) (now (settled .entry)) r (now (verdict .exit)) (now (settled .exit)) ⌝ }
 {
-    let len = three::record_length(counts.latches);
+    let len = stored::cube_bytes(counts.latches);
     judge_lamps(counts, table, cubes, len, n, verdict);
     settle_latches(counts.latches, cubes, len, n, j, settled);
     three::known_fields(settled, counts.latches)

@@ -6,7 +6,7 @@ use native.Mathlib.Nat.{zero-add}
 use native.Mathlib.Omega.{arith}
 use lib.ListN.{length}
 use Rattle.three.specs.Lists.{over}
-use Rattle.three.specs.Record.{bytesFor, unpack}
+use Rattle.three.specs.Record.{unpack}
 use Rattle.circuit.specs.declared.Counts.{Counts}
 use Rattle.circuit.specs.Circuit.{Circuit}
 use Rattle.circuit.specs.Refusal.{refusal}
@@ -24,6 +24,8 @@ use Rattle.text.proofs.RoundTrip.{Carries, read-carries}
 use Rattle.putting.proofs.Putting.{put-over}
 use Rattle.text.proofs.Numbers.{read-numbered}
 use Rattle.cubes.specs.declared.RunAnswer.{RunAnswer}
+use Rattle.cubes.specs.Buffer.{cubeBytes}
+use Rattle.cubes.proofs.StoredCube.{few-bytes}
 use Rattle.cubes.specs.Run.{run}
 use Rattle.cubes.specs.Call.{roomIn, RunGiven, refusedBy, circuitIn, outcomeIn, Runs}
 use Rattle.run.proofs.Refusing.{run-passes}
@@ -96,7 +98,7 @@ module _ {text : List ℕ} {counts : Counts} {table : List ℕ} (read : Read tex
 
   passes : refusedBy given ≡ 0
   unfolding refusedBy
-  passes = sym (run-passes counts table 16 (length cubes) (length verdict) (length settled) runnable (omega arith) (omega (arith, few read, c)) (omega (arith, c)) (omega (arith, few read, v)) (omega (arith, few read, s)))
+  passes = sym (run-passes counts table 16 (length cubes) (length verdict) (length settled) runnable (omega arith) (omega (arith, few-bytes (few read .latches), c)) (omega (arith, c)) (omega (arith, few read, v)) (omega (arith, few read, s)))
 
   same-circuit : circuitIn given ≡ circuitOf (read .content .counts) (read .content .words)
   unfolding circuitIn
@@ -106,7 +108,7 @@ module _ {text : List ℕ} {counts : Counts} {table : List ℕ} (read : Read tex
   report-is : reportOf text ≡ ended (circuitIn given) (outcomeIn given)
   unfolding reportOf reported runReport outcomeIn roomIn
   report-is =
-      let room = ap₂ (λ (n : ℕ) (k : Counts). n / bytesFor (k .latches)) c (read .counts-are) in
+      let room = ap₂ (λ (n : ℕ) (k : Counts). n / cubeBytes (k .latches)) c (read .counts-are) in
       ap reported (read .is) ∙ sym (ap₂ (λ (k : Circuit) (n : ℕ). ended k (run k 16 n)) same-circuit room)
 
   module _ {r : RunAnswer} {cubes′ verdict′ settled′ : List ℕ} (runs : Runs given r cubes′ verdict′ settled′) where

@@ -5,12 +5,12 @@ use Prim.Native.Nat.{ℕ, _/_, _≤_}
 use lib.ListN.{length}
 use Rattle.three.specs.Lists.{over}
 use Rattle.three.specs.Cube.{Cube, knownFields}
-use Rattle.three.specs.Record.{bytesFor}
 use Rattle.circuit.specs.Circuit.{Circuit}
 use Rattle.circuit.specs.Table.{circuitOf}
 use Rattle.text.specs.Outcome.{Outcome, accepted, refused}
 use Rattle.text.specs.Text.{Content, readText}
 use Rattle.text.specs.Bench.{bytes}
+use Rattle.cubes.specs.Buffer.{cubeBytes}
 use Rattle.cubes.specs.Run.{cubeAt, Ending, closed, full, run, verdict, settled}
 use Rattle.rows.specs.declared.Row.{Row}
 use Rattle.rows.specs.Rows.{item, rows}
@@ -36,7 +36,7 @@ ended c full = refusing 15
 unfoldable pub runReport : Content → List ℕ
 runReport t =
     let c : Circuit = circuitOf (t .counts) (t .words) in
-    ended c (run c 16 (65536 / bytesFor (t .counts .latches)))
+    ended c (run c 16 (65536 / cubeBytes (t .counts .latches)))
 
 unfoldable pub reported : Outcome Content → List ℕ
 reported (accepted t) = runReport t

@@ -8,7 +8,7 @@ use native.Mathlib.Omega.{arith}
 use lib.ListN.{length}
 use Rattle.three.specs.Lists.{over}
 use Rattle.three.specs.Cube.{Cube, knownFields}
-use Rattle.three.specs.Record.{bytesFor, pack}
+use Rattle.three.specs.Record.{pack}
 use Rattle.circuit.specs.declared.Counts.{Counts}
 use Rattle.circuit.specs.Circuit.{Circuit}
 use Rattle.circuit.specs.Refusal.{refusal}
@@ -17,13 +17,14 @@ use Rattle.circuit.specs.RulesInCode.{Legal}
 use Rattle.circuit.proofs.Refusals.{refused-old, accepted-new}
 use Rattle.chain.specs.declared.Chain.{Chain}
 use Rattle.cubes.specs.Run.{cubeAt, closed, run, verdict, settled}
-use Rattle.cubes.specs.Call.{cubeIn, packedCubes, roomIn, storedCubes, backTo, runTests, RunGiven, refusedBy, circuitIn, outcomeIn, cubesIn, backIn, verdictFields, settledFields, Runs}
+use Rattle.cubes.specs.Call.{roomIn, storedCubes, backTo, runTests, RunGiven, refusedBy, circuitIn, outcomeIn, cubesIn, backIn, verdictFields, settledFields, Runs}
 use Rattle.chain.specs.ChainInCode.{Chained}
 use Rattle.judge.specs.JudgeInCode.{Judgeable, Judgement}
 use Rattle.cubes.proofs.Steps.{closes}
-use Rattle.cubes.proofs.Storing.{records, records-sized, stored-sound}
+use Rattle.cubes.proofs.Storing.{records-sized, stored-sound}
 use Rattle.cubes.proofs.Buffered.{cubes-sized, closed-within, cube-in, full-is, verdict-same, settled-same, closed-number}
 use Rattle.cubes.proofs.Merging.{length-over}
+use Rattle.cubes.specs.Buffer.{packCubes, cubeBytes, cubeIn}
 
 -- ---- the cubes in the buffer
 
@@ -31,14 +32,13 @@ module _ (c : Counts) (words : List ℕ) (w : ℕ) (buffer : List ℕ) where
   abbrev circuit : Circuit
   circuit = circuitOf c words
 
-  module _ (n : ℕ) (cubes : List ℕ) (fills : cubes ≡ over (packedCubes circuit w n) buffer) where
-    cubes-judgeable : Legal c words → 1 ≤ n → n * bytesFor (c .latches) ≤ length buffer → Judgeable c words (bytesFor (c .latches)) n cubes
-    unfolding packedCubes records
+  module _ (n : ℕ) (cubes : List ℕ) (fills : cubes ≡ over (packCubes (cubeAt circuit w) n) buffer) where
+    cubes-judgeable : Legal c words → 1 ≤ n → n * cubeBytes (c .latches) ≤ length buffer → Judgeable c words (cubeBytes (c .latches)) n cubes
     cubes-judgeable legal some room = record {
       legal = legal;
       size = refl;
       some = some;
-      fits = rw (fills, length-over (records (cubeAt circuit w) n) buffer (rw (records-sized (c .latches) (cubeAt circuit w) (cubes-sized c words w) n) room)) room;
+      fits = rw (fills, length-over (packCubes (cubeAt circuit w) n) buffer (rw (records-sized (c .latches) (cubeAt circuit w) (cubes-sized c words w) n) room)) room;
       cube = λ k h. rw fills (stored-sound (c .latches) (cubeAt circuit w) (cubes-sized c words w) buffer n k h room);
     }
 
@@ -49,13 +49,13 @@ module _ (c : Counts) (words : List ℕ) (w : ℕ) (buffer : List ℕ) where
     pub back-below : r .back < r .count
     back-below = rw (chain .goes-back, chain .counts) (within .0)
 
-    cubes-fit : r .count * bytesFor (c .latches) ≤ length buffer
+    cubes-fit : r .count * cubeBytes (c .latches) ≤ length buffer
     unfolding roomIn
     cubes-fit =
         let below : r .count ≤ roomIn c buffer = rw (chain .counts) (within .1) in
-        omega (arith, mul-le-mul-right (bytesFor (c .latches)) below, div-mul-le-self (length buffer) (bytesFor (c .latches)))
+        omega (arith, mul-le-mul-right (cubeBytes (c .latches)) below, div-mul-le-self (length buffer) (cubeBytes (c .latches)))
 
-    pub judgeable : Legal c words → Judgeable c words (bytesFor (c .latches)) (r .count) cubes
+    pub judgeable : Legal c words → Judgeable c words (cubeBytes (c .latches)) (r .count) cubes
     judgeable legal = cubes-judgeable (r .count) cubes (chain .fills) legal (chain .some) cubes-fit
 
 -- ---- the call
@@ -90,7 +90,7 @@ module _ (g : RunGiven) where
           counts = chain .counts ∙ accepted-new (refusedBy g) _ _ ok;
           goes-back = is-full .1 ∙ accepted-new (refusedBy g) _ _ ok;
           settles = refused-old 15 _ _ refused;
-          fills-cubes = chain .fills ∙ ap (λ (n : ℕ). over (packedCubes (circuitIn g) (g .w) n) (g .cubes)) (chain .counts) ∙ accepted-new (refusedBy g) _ _ ok;
+          fills-cubes = chain .fills ∙ ap (λ (n : ℕ). over (packCubes (cubeAt (circuitIn g) (g .w)) n) (g .cubes)) (chain .counts) ∙ accepted-new (refusedBy g) _ _ ok;
           fills-verdict = refused-old 15 _ _ refused;
           fills-settled = refused-old 15 _ _ refused;
         }
@@ -117,7 +117,7 @@ module _ (g : RunGiven) where
         counts = chain .counts ∙ accepted-new (refusedBy g) _ _ ok;
         goes-back = chain .goes-back ∙ accepted-new (refusedBy g) _ _ ok;
         settles = judged .count ∙ ap knownFields settled-is ∙ accepted-new 0 _ _ refl;
-        fills-cubes = chain .fills ∙ ap (λ (n : ℕ). over (packedCubes (circuitIn g) (g .w) n) (g .cubes)) (chain .counts) ∙ accepted-new (refusedBy g) _ _ ok;
+        fills-cubes = chain .fills ∙ ap (λ (n : ℕ). over (packCubes (cubeAt (circuitIn g) (g .w)) n) (g .cubes)) (chain .counts) ∙ accepted-new (refusedBy g) _ _ ok;
         fills-verdict = judged .lamps ∙ ap (λ (v : Cube). over (pack v) (g .verdict)) verdict-is ∙ accepted-new 0 _ _ refl;
         fills-settled = judged .latches ∙ ap (λ (v : Cube). over (pack v) (g .settled)) settled-is ∙ accepted-new 0 _ _ refl;
       }

@@ -11,6 +11,7 @@ use Rattle.circuit.specs.Table.{boardTests}
 use Rattle.circuit.specs.RulesInCode.{Legal}
 use Rattle.circuit.proofs.Refusals.{stops, past, none, passes, none-append, refuses-whole, none-past}
 use Rattle.circuit.proofs.Legality.{board-numbered, board-legal}
+use Rattle.cubes.specs.Buffer.{cubeBytes}
 use Rattle.cubes.specs.Call.{runTests, runResultTests}
 
 module _ (c : Counts) (table : List ℕ) (w n v s : ℕ) where
@@ -30,19 +31,19 @@ module _ (c : Counts) (table : List ℕ) (w n v s : ℕ) where
     interval-over h = past-board _ (stops _ _ (lt-leb w 1000 h))
 
     module _ (lw : w ≤ 1000) where
-      pub cubes-short : n < bytesFor (c .latches) → 13 ≡ number
+      pub cubes-short : n < cubeBytes (c .latches) → 13 ≡ number
       unfolding runTests
-      cubes-short h = past-board _ (past _ _ (le-leb w 1000 lw) (stops _ _ (lt-leb (bytesFor (c .latches)) n h)))
+      cubes-short h = past-board _ (past _ _ (le-leb w 1000 lw) (stops _ _ (lt-leb (cubeBytes (c .latches)) n h)))
 
-      module _ (ln : bytesFor (c .latches) ≤ n) where
+      module _ (ln : cubeBytes (c .latches) ≤ n) where
         pub cubes-over : 65536 < n → 13 ≡ number
         unfolding runTests
-        cubes-over h = past-board _ (past _ _ (le-leb w 1000 lw) (past _ _ (le-leb (bytesFor (c .latches)) n ln) (stops _ _ (lt-leb n 65536 h))))
+        cubes-over h = past-board _ (past _ _ (le-leb w 1000 lw) (past _ _ (le-leb (cubeBytes (c .latches)) n ln) (stops _ _ (lt-leb n 65536 h))))
 
         module _ (mn : n ≤ 65536) where
           past-cubes : {k : ℕ} → k ≡ refusal (runResultTests c v s) → k ≡ number
           unfolding runTests runResultTests
-          past-cubes e = past-board _ (past _ _ (le-leb w 1000 lw) (past _ _ (le-leb (bytesFor (c .latches)) n ln) (past _ _ (le-leb n 65536 mn) e)))
+          past-cubes e = past-board _ (past _ _ (le-leb w 1000 lw) (past _ _ (le-leb (cubeBytes (c .latches)) n ln) (past _ _ (le-leb n 65536 mn) e)))
 
           pub verdict-short : v < bytesFor (c .lamps) → 10 ≡ number
           unfolding runResultTests
@@ -60,7 +61,7 @@ module _ (c : Counts) (table : List ℕ) (w n v s : ℕ) where
   pub record Accepted : Type 0 where
     pub legal : Legal c table
     pub interval : w ≤ 1000
-    pub one : bytesFor (c .latches) ≤ n
+    pub one : cubeBytes (c .latches) ≤ n
     pub small : n ≤ 65536
     pub verdict-fits : bytesFor (c .lamps) ≤ v
     pub settled-fits : bytesFor (c .latches) ≤ s

@@ -31,8 +31,7 @@ fn run_refusal(
     if w > MOST_INTERVAL {
         return 12;
     }
-    let len = three::record_length(counts.latches);
-    if cubes < len {
+    if cubes < stored::cube_bytes(counts.latches) {
         return 13;
     }
     if cubes > MOST_CUBE_BYTES {
@@ -41,7 +40,7 @@ fn run_refusal(
     if verdict < three::record_length(counts.lamps) {
         return 10;
     }
-    if settled < len {
+    if settled < three::record_length(counts.latches) {
         return 10;
     }
     0

@@ -7,7 +7,8 @@ use native.Mathlib.Omega.{arith}
 use lib.ListN.{length, getD, set}
 use Rattle.three.proofs.Loops.{Stored, stored-next}
 use Rattle.three.proofs.Lists.{length-tabulate, getD-tabulate}
-use Rattle.stored.specs.CubesInCode.{keptByte, keptBytes}
+use Rattle.stored.specs.CubesInCode.{keptBytes}
+use Rattle.cubes.specs.HeldInCode.{keptByte}
 
 module _ (len : ℕ) (held b : List ℕ) where
   pub length-kept : length (keptBytes len held b) ≡ len

@@ -9,9 +9,8 @@ use lib.Seq.{paste, take-all, take-take}
 use Rattle.three.specs.Lists.{over}
 use Rattle.three.specs.Value.{Three, unknown, low, ternary}
 use Rattle.three.specs.Cube.{Cube}
-use Rattle.three.specs.Record.{bytesFor, pack}
+use Rattle.three.specs.Record.{pack, unpack}
 use Rattle.three.proofs.Lists.{tabulate-ext}
-use Rattle.three.proofs.Pack.{length-pack}
 use Rattle.circuit.specs.declared.Counts.{Counts}
 use Rattle.circuit.specs.Circuit.{Circuit, pass, settle}
 use Rattle.circuit.specs.Table.{circuitOf}
@@ -19,9 +18,12 @@ use Rattle.circuit.specs.RulesInCode.{Legal}
 use Rattle.circuit.proofs.Pass.{length-pass, pass-front}
 use Rattle.pass.specs.ValuesInCode.{valuesOf, Begins, literalValues}
 use Rattle.pass.proofs.Settling.{next-stored, lamps-stored}
-use Rattle.pass.proofs.Values.{length-literals}
 use Rattle.cubes.specs.Run.{switchesUnknown, nextCube, lampsIn}
-use Rattle.stored.specs.CubesInCode.{keptByte, keptBytes, SwitchesX}
+use Rattle.cubes.specs.HeldInCode.{keptByte}
+use Rattle.stored.specs.CubesInCode.{keptBytes, SwitchesX, Settled}
+use Rattle.cubes.specs.Buffer.{cubeBytes, cubeOf, packCube}
+use Rattle.cubes.proofs.StoredCube.{cube-fields, cube-pack, cube-long}
+use Rattle.cubes.proofs.Buffered.{next-counted}
 
 module _ (c : Counts) (words : List ℕ) where
   -- the constant and all switches X
@@ -31,14 +33,14 @@ module _ (c : Counts) (words : List ℕ) where
   length-front : length front ≡ 1 + c .inputs
   length-front = rw (one-add) (ap suc (length-replicate (c .inputs) unknown))
 
-  pub ready-settles : (t t′ : List ℕ) (state : Cube) → SwitchesX c t → Begins t′ (pass ternary (take (1 + c .inputs) (valuesOf t) ++ state) (circuitOf c words .gates))
-      → Begins t′ (settle ternary (circuitOf c words) (switchesUnknown (circuitOf c words)) state)
+  pub cube-settles : (t t′ bytes : List ℕ) → SwitchesX c t → Begins t′ (pass ternary (take (1 + c .inputs) (valuesOf t) ++ unpack (c .latches) bytes) (circuitOf c words .gates))
+      → Settled c words (cubeOf (c .latches) bytes) t′
   unfolding settle ternary switchesUnknown circuitOf
-  ready-settles t t′ state r b =
+  cube-settles t t′ bytes r b =
       let known : take (1 + c .inputs) (valuesOf t) ≡ front = rw (← length-front) (r .same) in
-      rw known at b
+      rw (← cube-fields (c .latches) bytes) (rw known at b)
 
-  pub ready-again : (t : List ℕ) (state : Cube) → Begins t (settle ternary (circuitOf c words) (switchesUnknown (circuitOf c words)) state) → SwitchesX c t
+  pub ready-again : (t : List ℕ) (state : Cube) → Settled c words state t → SwitchesX c t
   unfolding settle ternary switchesUnknown circuitOf
   ready-again t state b = record {
     working = b .working;
@@ -62,24 +64,22 @@ module _ (c : Counts) (words : List ℕ) (legal : Legal c words) (state : Cube) 
   abbrev circuit : Circuit
   circuit = circuitOf c words
 
-  pub reach-stored : Begins t (settle ternary circuit (switchesUnknown circuit) state) → (held d next b b′ : List ℕ) (len : ℕ) → len ≡ bytesFor (c .latches)
+  unknown-sized : length (switchesUnknown circuit) ≡ c .inputs
+  unfolding switchesUnknown circuitOf
+  unknown-sized = length-replicate (c .inputs) unknown
+
+  pub reach-stored : Settled c words state t → (held d next b b′ : List ℕ) (len : ℕ) → len ≡ cubeBytes (c .latches)
       → next ≡ over (pack (literalValues (valuesOf t) words 0 2 (c .latches))) d → b′ ≡ paste b 0 (keptBytes len held next) len
-      → b′ ≡ paste b 0 (keptBytes (bytesFor (c .latches)) held (pack (nextCube circuit state))) (bytesFor (c .latches))
+      → b′ ≡ paste b 0 (keptBytes (cubeBytes (c .latches)) held (packCube (nextCube circuit state))) (cubeBytes (c .latches))
   unfolding nextCube
-  reach-stored begins held d next b b′ len el en eb =
-      let long : bytesFor (c .latches) ≤ length (pack (literalValues (valuesOf t) words 0 2 (c .latches))) = rw (length-pack, length-literals) (omega arith) in
-      let fields = next-stored c words legal (switchesUnknown circuit) state (unknown-sized) sized t begins in
-      let kept : keptBytes (bytesFor (c .latches)) held next ≡ keptBytes (bytesFor (c .latches)) held (pack (nextCube circuit state)) =
-      rw en (kept-over (bytesFor (c .latches)) held _ d long ∙ ap (λ (f : Cube). keptBytes (bytesFor (c .latches)) held (pack f)) fields) in
-      eb ∙ rw (el, kept)
-    where
-      unknown-sized : length (switchesUnknown circuit) ≡ c .inputs
-      unknown-sized = unfold switchesUnknown circuitOf in length-replicate (c .inputs) unknown
+  reach-stored settled held d next b b′ len el en eb =
+      let fields = next-stored c words legal (switchesUnknown circuit) state unknown-sized sized t settled in
+      let stored : next ≡ over (packCube (nextCube circuit state)) d = en ∙ ap (λ (f : Cube). over (pack f) d) fields ∙ ap (λ (l : List ℕ). over l d) (sym (cube-pack _)) in
+      let long : length (packCube (nextCube circuit state)) ≡ cubeBytes (c .latches) = cube-long _ (next-counted c words state) in
+      eb ∙ rw (el, stored, kept-over (cubeBytes (c .latches)) held (packCube (nextCube circuit state)) d (omega arith))
 
--- ---- the lamps that are stored from a pass
+  -- ---- the lamps that are stored from a pass
 
-module _ (c : Counts) (words : List ℕ) (legal : Legal c words) (state : Cube) (sized : length state ≡ c .latches) (t : List ℕ) where
-  pub lamps-reached : Begins t (settle ternary (circuitOf c words) (switchesUnknown (circuitOf c words)) state)
-      → literalValues (valuesOf t) words (2 * c .latches) 1 (c .lamps) ≡ lampsIn (circuitOf c words) state
+  pub lamps-reached : Settled c words state t → literalValues (valuesOf t) words (2 * c .latches) 1 (c .lamps) ≡ lampsIn circuit state
   unfolding lampsIn
-  lamps-reached begins = lamps-stored c words legal (switchesUnknown (circuitOf c words)) state (unfold switchesUnknown circuitOf in length-replicate (c .inputs) unknown) sized t begins
+  lamps-reached settled = lamps-stored c words legal (switchesUnknown circuit) state unknown-sized sized t settled

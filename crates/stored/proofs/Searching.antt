@@ -1,9 +1,9 @@
 -- The search over stored records, turn by turn: k records are passed, and i bytes of the next. Assumes nothing.
 use mathlib.Core.Path.{_≡_, refl, sym, ap}
-use mathlib.Core.Bool.{Bool, true, false}
+use mathlib.Core.Bool.{Bool, false}
 use mathlib.Core.List.{List}
-use Prim.Native.Nat.{ℕ, zero, suc, _+_, _*_, _<_, _≤_, suc-le-suc}
-use native.Mathlib.Nat.{mul-le-mul-right, suc-mul, zero-mul, le-of-suc-le-suc, not-suc-le-zero}
+use Prim.Native.Nat.{ℕ, _+_, _*_, _<_, _≤_}
+use native.Mathlib.Nat.{mul-le-mul-right, suc-mul, zero-mul, not-suc-le-zero}
 use native.Mathlib.Numerals.{add-one}
 use native.Mathlib.Omega.{arith}
 use borrow.Author.Count.{below-more}
@@ -11,33 +11,10 @@ use borrow.Author.Tests.{eq-eqb, ne-eqb}
 use lib.Bits.{bitAnd}
 use lib.Dec.{eqb}
 use lib.ListN.{length, getD}
-use Rattle.three.proofs.Lists.{by-test, every-all, every-fails}
+use Rattle.three.proofs.Lists.{every-all, every-fails}
 use Rattle.three.proofs.Loops.{Tried, tried-first, tried-next}
 use Rattle.stored.specs.CubesInCode.{coversFrom, first}
-
--- ---- the first number at which a test holds
-
-pub first-at : (n : ℕ) (p : ℕ → Bool) (k : ℕ) → k < n → p k ≡ true → ((m : ℕ) → m < k → p m ≡ false) → first n p ≡ k
-unfolding first
-first-at zero p k h e none = absurd (not-suc-le-zero h)
-first-at (suc n) p zero h e none = rw (first, e)
-first-at (suc n) p (suc k) h e none =
-    rw (first, none 0 (omega arith)) (ap suc (first-at n (λ i. p (suc i)) k (le-of-suc-le-suc h) e (λ m l. none (suc m) (suc-le-suc l))))
-
-pub first-none : (n : ℕ) (p : ℕ → Bool) → ((m : ℕ) → m < n → p m ≡ false) → first n p ≡ n
-unfolding first
-first-none zero p none = refl
-first-none (suc n) p none = rw (first, none 0 (omega arith)) (ap suc (first-none n (λ i. p (suc i)) (λ m l. none (suc m) (suc-le-suc l))))
-
--- tests that agree below n
-pub first-ext : (n : ℕ) (p q : ℕ → Bool) → ((k : ℕ) → k < n → p k ≡ q k) → first n p ≡ first n q
-unfolding first
-first-ext zero p q h = refl
-first-ext (suc n) p q h = by-test (q 0)
-    (λ e. rw (first, h 0 (omega arith), e))
-    (λ e. rw (first, h 0 (omega arith), e) (ap suc (first-ext n (λ i. p (suc i)) (λ i. q (suc i)) (λ k l. h (suc k) (suc-le-suc l)))))
-
--- ---- the two loops
+use Rattle.stored.proofs.First.{first-at, first-none}
 
 module _ (cubes b : List ℕ) (len n : ℕ) where
   -- byte i of the record at `at` has no bit that b's has not

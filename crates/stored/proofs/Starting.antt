@@ -9,6 +9,10 @@ use Rattle.circuit.specs.declared.Counts.{Counts}
 use Rattle.circuit.specs.Table.{circuitOf}
 use Rattle.cubes.specs.Run.{startField, start}
 use Rattle.stored.specs.CubesInCode.{startFields}
+use Rattle.three.specs.Lists.{over}
+use Rattle.three.specs.Record.{pack}
+use Rattle.cubes.specs.Buffer.{packCube}
+use Rattle.cubes.proofs.StoredCube.{cube-pack}
 
 pub start-fields : (c : Counts) (words : List ℕ) → start (circuitOf c words) ≡ startFields words (c .latches)
 unfolding start startFields circuitOf
@@ -38,3 +42,7 @@ module _ (words : List ℕ) (count : ℕ) where
         go : (n : ℕ) → (n ≡ 0 → ⊥) → 2 ≡ code (startField n)
         go zero z = absurd (z mathlib.Core.Path.refl)
         go (suc n) z = unfold startField code in mathlib.Core.Path.refl
+
+  -- cube 0, stored as a record of its fields
+  pub start-stored : (d : List ℕ) → over (pack (startFields words count)) d ≡ over (packCube (startFields words count)) d
+  start-stored d = ap (λ (l : List ℕ). over l d) (sym (cube-pack _))

@@ -1,24 +1,23 @@
 -- How the code keeps cubes one after the other in a buffer; nothing here has to be believed. Assumes nothing.
 use mathlib.Core.Bool.{Bool, true, false}
 use mathlib.Core.List.{List, _∷_}
-use Prim.Native.Nat.{ℕ, zero, suc, _+_, _*_, _-_}
+use Prim.Native.Nat.{ℕ, zero, suc, _+_, _*_}
 use lib.Bits.{bitAnd}
 use lib.Dec.{eqb}
 use lib.ListN.{getD, replicate}
 use Rattle.three.specs.Lists.{tabulate, every}
-use Rattle.three.specs.Value.{unknown, low}
+use Rattle.three.specs.Value.{unknown, low, ternary}
 use Rattle.three.specs.Cube.{Cube}
 use Rattle.circuit.specs.declared.Counts.{Counts}
+use Rattle.circuit.specs.Circuit.{settle}
+use Rattle.circuit.specs.Table.{circuitOf}
 use Rattle.pass.specs.ValuesInCode.{Begins}
-use Rattle.cubes.specs.Run.{startField}
+use Rattle.cubes.specs.Run.{startField, switchesUnknown}
+use Rattle.cubes.specs.HeldInCode.{keptByte}
 
 -- the fields of cube 0, from the table's words
 unfoldable pub startFields : List ℕ → ℕ → Cube
 startFields words count = tabulate count (λ i. startField (getD words (2 * i + 1) 0))
-
--- a record's byte with its held fields set to X
-unfoldable pub keptByte : ℕ → ℕ → ℕ
-keptByte byte held = bitAnd byte (255 - held)
 
 -- len bytes of b with the held latches set to X
 unfoldable pub keptBytes : ℕ → List ℕ → List ℕ → List ℕ
@@ -36,3 +35,7 @@ first (suc n) p = elim (p 0) [ true ↦ 0 | false ↦ suc (first n (λ i. p (suc
 -- a working table with the constant and all switches X
 abbrev pub SwitchesX : Counts → List ℕ → Type 0
 SwitchesX c table = Begins table (low ∷ replicate (c .inputs) unknown)
+
+-- and one that begins with the values of a circuit whose state is this cube
+abbrev pub Settled : Counts → List ℕ → Cube → List ℕ → Type 0
+Settled c words state table = Begins table (settle ternary (circuitOf c words) (switchesUnknown (circuitOf c words)) state)

@@ -7,11 +7,23 @@ ghost use lib.ListN.{length, getD, drop};
 ghost use lib.Seq.{paste};
 ghost use Rattle.three.specs.Lists.{over};
 ghost use Rattle.three.specs.Value.{unknown, code};
-ghost use Rattle.three.specs.Record.{bytesFor, byteAt, pack, unpack, IsRecord};
+ghost use Rattle.three.specs.Record.{byteAt};
 ghost use Rattle.circuit.specs.Table.{circuitOf};
 ghost use Rattle.circuit.specs.RulesInCode.{Legal};
 ghost use Rattle.cubes.specs.Run.{nextCube};
-ghost use Rattle.stored.specs.CubesInCode.{startFields, keptByte, keptBytes, coversFrom, first, SwitchesX};
+ghost use Rattle.cubes.specs.Buffer.{cubeBytes, longestCube, packCube, IsCube, cubeOf};
+ghost use Rattle.cubes.specs.HeldInCode.{keptByte};
+ghost use Rattle.stored.specs.CubesInCode.{startFields, keptBytes, coversFrom, first, SwitchesX, Settled};
+
+// The record of a cube with the most latches.
+pub const LONGEST_CUBE: usize = 128;
+
+// How many bytes a stored cube takes.
+pub fn cube_bytes(latches: usize) -> usize
+    ensures { λ r. ⌜ r ≡ cubeBytes latches ⌝ }
+{
+    three::record_length(latches)
+}
 
 // Field number i of cube 0; a field beyond the latches is X.
 fn start_field(table: &[u16], count: usize, i: usize) -> u8
@@ -41,10 +53,10 @@ fn start_byte(table: &[u16], count: usize, k: usize) -> u8
 
 // "Cube 0 is the resets."
 pub fn store_start(table: &[u16], count: usize, cubes: &mut [u8])
-    requires { ⌜ (2 * count ≤ length (now table)) × (count ≤ 512) × (bytesFor count ≤ length (now cubes)) ⌝ }
-    ensures { λ _. ⌜ now (cubes .exit) ≡ over (pack (startFields (now (table .entry)) count)) (now (cubes .entry)) ⌝ }
+    requires { ⌜ (2 * count ≤ length (now table)) × (count ≤ 512) × (cubeBytes count ≤ length (now cubes)) ⌝ }
+    ensures { λ _. ⌜ now (cubes .exit) ≡ over (packCube (startFields (now (table .entry)) count)) (now (cubes .entry)) ⌝ }
 {
-    for k in 0..three::record_length(count) {
+    for k in 0..cube_bytes(count) {
         cubes[k] = start_byte(table, count, k);
     }
 }
@@ -57,13 +69,21 @@ fn kept(byte: u8, held: u8) -> u8
 }
 
 // The record b with held latches set to X, into `out` from byte `at` on.
-pub fn store_kept(b: &[u8], held: [u8; 128], len: usize, out: &mut [u8], at: usize)
-    requires { ⌜ (len ≤ 128) × (len ≤ length (now b)) × (at + len ≤ length (now out)) ⌝ }
+pub fn store_kept(b: &[u8], held: [u8; LONGEST_CUBE], len: usize, out: &mut [u8], at: usize)
+    requires { ⌜ (len ≤ longestCube) × (len ≤ length (now b)) × (at + len ≤ length (now out)) ⌝ }
     ensures { λ _. ⌜ now (out .exit) ≡ paste (now (out .entry)) at (keptBytes len held (now (b .entry))) len ⌝ }
 {
     for i in 0..len {
         out[at + i] = kept(b[i], held[i]);
     }
+}
+
+// One pass over the cube at byte `at`, with all switches X.
+pub fn settle_cube(counts: Counts, table: &[u16], cubes: &[u8], at: usize, values: &mut [u8; 4096])
+    requires { ⌜ Legal counts (now table) × (at ≤ length (now cubes)) × IsCube (counts .latches) (drop at (now cubes)) × SwitchesX counts (now values) ⌝ }
+    ensures { λ _. ⌜ Settled counts (now (table .entry)) (cubeOf (counts .latches) (drop at (now (cubes .entry)))) (now (values .exit)) ⌝ }
+{
+    pass::settle_state(counts, table, &cubes[at..], values);
 }
 
 // The run's b after the cube at byte `at`: its next state, with held latches set to X.
@@ -72,17 +92,17 @@ pub fn reach(
     table: &[u16],
     cubes: &[u8],
     at: usize,
-    held: [u8; 128],
+    held: [u8; LONGEST_CUBE],
     values: &mut Values,
-    b: &mut [u8; 128],
+    b: &mut [u8; LONGEST_CUBE],
 )
-    requires { ⌜ Legal counts (now table) × (at ≤ length (now cubes)) × IsRecord (counts .latches) (drop at (now cubes)) × SwitchesX counts (now values) × (length (now b) ≡ 128) ⌝ }
-    ensures { λ _. ⌜ SwitchesX counts (now (values .exit)) × (now (b .exit) ≡ paste (now (b .entry)) 0 (keptBytes (bytesFor (counts .latches)) held (pack (nextCube (circuitOf counts (now (table .entry))) (unpack (counts .latches) (drop at (now (cubes .entry))))))) (bytesFor (counts .latches))) ⌝ }
+    requires { ⌜ Legal counts (now table) × (at ≤ length (now cubes)) × IsCube (counts .latches) (drop at (now cubes)) × SwitchesX counts (now values) × (length (now b) ≡ longestCube) ⌝ }
+    ensures { λ _. ⌜ SwitchesX counts (now (values .exit)) × (now (b .exit) ≡ paste (now (b .entry)) 0 (keptBytes (cubeBytes (counts .latches)) held (packCube (nextCube (circuitOf counts (now (table .entry))) (cubeOf (counts .latches) (drop at (now (cubes .entry))))))) (cubeBytes (counts .latches))) ⌝ }
 {
-    pass::settle_state(counts, table, &cubes[at..], values);
-    let mut next = [0u8; 128];
+    settle_cube(counts, table, cubes, at, values);
+    let mut next = [0u8; LONGEST_CUBE];
     pass::store(values, table, 0, 2, counts.latches, &mut next);
-    store_kept(&next, held, three::record_length(counts.latches), b, 0);
+    store_kept(&next, held, cube_bytes(counts.latches), b, 0);
 }
 
 // "The search is for the first stored cube that subsumes b": its number, or n where none of the n does.

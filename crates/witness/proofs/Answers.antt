@@ -6,12 +6,12 @@ use lib.Dec.{leb}
 use lib.ListN.{length, replicate, length-replicate}
 use Rattle.three.specs.Lists.{over}
 use Rattle.three.specs.Cube.{knownFields}
-use Rattle.three.specs.Record.{bytesFor}
 use Rattle.circuit.specs.declared.Counts.{Counts}
 use Rattle.circuit.specs.Refusal.{Test, _or_, refusal, leftBy}
 use Rattle.circuit.specs.Table.{circuitOf, boardTests}
 use Rattle.circuit.proofs.Refusals.{none-past}
 use Rattle.cubes.specs.declared.RunAnswer.{RunAnswer}
+use Rattle.cubes.specs.Buffer.{cubeBytes}
 use Rattle.cubes.specs.Run.{run}
 use Rattle.cubes.specs.Call.{roomIn, runResultTests, runTests, RunGiven, refusedBy, circuitIn, outcomeIn, cubesIn, backIn, verdictFields, settledFields, Runs}
 use Rattle.witness.specs.Answer.{Answer, answerFrom, answerIn, Sized, zeroed}
@@ -60,7 +60,7 @@ answer-alike g h refused circuit w room i = answerFrom (refused i) (circuit i) (
 -- the tests of a run behind 3, 10 for the table and 11
 abbrev restTests : Counts → ℕ → ℕ → ℕ → ℕ → List Test
 restTests c w cubes verdict settled =
-    leb w 1000 or 12 ∷ leb (bytesFor (c .latches)) cubes or 13 ∷ leb cubes 65536 or 13 ∷ runResultTests c verdict settled
+    leb w 1000 or 12 ∷ leb (cubeBytes (c .latches)) cubes or 13 ∷ leb cubes 65536 or 13 ∷ runResultTests c verdict settled
 
 rest-decides : (g : RunGiven) → 0 ≡ refusal (boardTests (g .counts) (g .table))
     → refusedBy g ≡ refusal (restTests (g .counts) (g .w) (length (g .cubes)) (length (g .verdict)) (length (g .settled)))
@@ -76,7 +76,7 @@ answer-zeroed size g sized =
     (λ i. refusal (runTests (g .counts) (g .table) (g .w) (long i) (sized .verdict i) (sized .settled i)))
     refl
     refl
-    (λ i. long i / bytesFor (g .counts .latches))
+    (λ i. long i / cubeBytes (g .counts .latches))
 
 -- and of two tables that 3, 10 and 11 do not refuse the circuit alone
 pub answer-tables : (c : Counts) (table table′ : List ℕ) (w size : ℕ) → 0 ≡ refusal (boardTests c table) → 0 ≡ refusal (boardTests c table′)

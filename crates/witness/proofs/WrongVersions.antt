@@ -10,7 +10,8 @@ use Rattle.three.specs.Value.{Three, unknown, code, decode}
 use Rattle.three.specs.Cube.{Cube}
 use Rattle.three.specs.Record.{pairs, pairAt, unpack}
 use Rattle.cubes.specs.declared.RunAnswer.{RunAnswer}
-use Rattle.cubes.specs.Call.{cubeIn, Runs}
+use Rattle.cubes.specs.Buffer.{cubeBytes, cubeOf, cubeIn}
+use Rattle.cubes.specs.Call.{Runs}
 use Rattle.witness.specs.Answer.{answerIn, Sized, zeroed}
 use Rattle.witness.specs.Computed.{computed}
 use Rattle.witness.specs.Witness.{counts, words, witness, other, right, right-other}
@@ -77,7 +78,7 @@ module _ {cubes₀ verdict₀ settled₀ : List ℕ} (sized : Sized 64 (witness 
 
     -- "one that computes cube 1 and then repeats it": cube 2 is cube 1
     pub repeats-cube-1 : cubeIn 4 cubes 2 ≡ cubeIn 4 cubes 1 → ⊥
-    unfolding cubeIn unpack tabulate pairAt pairs decode code over
+    unfolding cubeIn cubeOf cubeBytes unpack tabulate pairAt pairs decode code over
     repeats-cube-1 e =
         let latch-1 : Cube → ℕ = λ l. code (getD l 1 unknown) in
         let off : latch-1 (cubeIn 4 cubes 2) ≡ 1 = ap (λ (l : List ℕ). latch-1 (cubeIn 4 l 2)) (as-right .cubes) in

@@ -9,7 +9,8 @@ use Rattle.circuit.specs.declared.Counts.{Counts}
 use Rattle.circuit.specs.Circuit.{Circuit}
 use Rattle.circuit.specs.Refusal.{leftBy}
 use Rattle.cubes.specs.Run.{cubeAt, Ending, verdict as verdictOf, settled as settledOf}
-use Rattle.cubes.specs.Call.{packedCubes, roomIn, storedCubes, backTo, outcomeNumber, RunGiven, refusedBy, circuitIn, outcomeIn}
+use Rattle.cubes.specs.Buffer.{packCubes}
+use Rattle.cubes.specs.Call.{roomIn, storedCubes, backTo, outcomeNumber, RunGiven, refusedBy, circuitIn, outcomeIn}
 
 -- a buffer that the call does not write has none
 pub record Answer : Type 0 where
@@ -33,7 +34,7 @@ answerFrom refused c w room outcome =
       n = leftBy refused n 0;
       j = leftBy refused j 0;
       s = leftBy number (knownFields fields) 0;
-      cubes = leftBy refused (packedCubes c w n) [];
+      cubes = leftBy refused (packCubes (cubeAt c w) n) [];
       verdict = leftBy number (pack (verdictOf c (cubeAt c w) n)) [];
       settled = leftBy number (pack fields) [];
     }

@@ -1,6 +1,6 @@
 -- `chain::differing` meets its contract: it is the definition, and three times at most 85. Assumes nothing.
 use mathlib.Core.Path.{refl}
-use Rattle.chain.specs.ChainInCode.{differingByte}
+use Rattle.cubes.specs.HeldInCode.{differingByte}
 use Rattle.chain.proofs.Keeping.{differing-small}
 use Rattle.chain.proofs.differing.Statement.{statement}
 use Rattle.chain.proofs.differing.Tie as tie

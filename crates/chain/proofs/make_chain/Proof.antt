@@ -1,23 +1,25 @@
 -- `chain::make_chain` meets its contract: cube 0 is stored, and followed. Assumes nothing.
 use mathlib.Core.Path.{refl}
 use Rattle.chain.proofs.Following.{start-followable, chained-from}
+use Rattle.cubes.proofs.StoredCube.{some-bytes}
+use native.Mathlib.Omega.{arith}
 use borrow.Author.Needs.{needs}
 use Rattle.chain.proofs.make_chain.Statement.{statement}
 use Rattle.chain.proofs.make_chain.Tie as tie
 
-record-length-requires : tie.Need-record-length-requires
-record-length-requires c κs = search needs
+cube-bytes-requires : tie.Need-cube-bytes-requires
+cube-bytes-requires c κs = search needs
 
 store-start-requires : tie.Need-store-start-requires
 store-start-requires c κs = search needs
 
 div-follow : tie.Need-div-follow
-div-follow c = search needs
+div-follow c = omega (arith, some-bytes (c .before .before .before .before .before .before .before .args .counts .latches))
 
 follow-requires : tie.Need-follow-requires
 follow-requires c κs =
     let pre = c .before .before .before .before .before .before .before .before .pre in
-    start-followable _ _ 0 _ _ (pre .1) (c .before .before .before .store-start .ensures) (pre .0) (pre .2) _ _ (c .before .before .before .before .before .record-length .ensures) refl
+    start-followable _ _ 0 _ _ (pre .1) (c .before .before .before .store-start .ensures) (pre .0) (pre .2) _ _ (c .before .before .before .before .before .cube-bytes .ensures) refl
 
 same-length : tie.Need-same-length
 same-length c = search needs
@@ -31,7 +33,7 @@ pub make-chain-spec : {M : Type 1} → statement M
 make-chain-spec =
     tie.close
     (tie.spec
-    record-length-requires
+    cube-bytes-requires
     store-start-requires
     div-follow
     follow-requires

@@ -5,18 +5,18 @@ use borrow.Author.Needs.{needs}
 use Rattle.judge.proofs.judge.Statement.{statement}
 use Rattle.judge.proofs.judge.Tie as tie
 
-record-length-requires : tie.Need-record-length-requires
-record-length-requires c κs = search needs
+cube-bytes-requires : tie.Need-cube-bytes-requires
+cube-bytes-requires c κs = search needs
 
 judge-lamps-requires : tie.Need-judge-lamps-requires
 judge-lamps-requires c κs =
     let pre = c .before .before .before .before .before .before .pre in
-    (judgeable-len _ _ _ _ (pre .0) _ (c .before .record-length .ensures), pre .2)
+    (judgeable-len _ _ _ _ (pre .0) _ (c .before .cube-bytes .ensures), pre .2)
 
 settle-latches-requires : tie.Need-settle-latches-requires
 settle-latches-requires c κs =
     let pre = c .before .before .before .before .before .before .before .before .before .before .pre in
-    (settleable _ _ _ _ (pre .0) _ (c .before .before .before .before .before .record-length .ensures) _ (pre .1), pre .3)
+    (settleable _ _ _ _ (pre .0) _ (c .before .before .before .before .before .cube-bytes .ensures) _ (pre .1), pre .3)
 
 known-fields-requires : tie.Need-known-fields-requires
 known-fields-requires c κs =
@@ -42,7 +42,7 @@ pub judge-spec : {M : Type 1} → statement M
 judge-spec =
     tie.close
     (tie.spec
-    record-length-requires
+    cube-bytes-requires
     judge-lamps-requires
     settle-latches-requires
     known-fields-requires

@@ -1,5 +1,6 @@
 -- `judge::settle_latches` meets its contract: the cubes from j on are merged one after the other. Assumes nothing.
 use Prim.Native.Nat.{_-_, _≤_}
+use Rattle.cubes.proofs.StoredCube.{cube-bytes}
 use Rattle.judge.proofs.Judging.{Settled, latch-place, cube-record, settled-first, settled-record, settled-length, settled-next, settled-last}
 use native.Mathlib.Omega.{arith}
 use Rattle.judge.proofs.settle_latches.Statement.{statement}
@@ -23,7 +24,7 @@ copy-cube-requires c κs =
     let start = c .before .before .before in
     let pre = start .pre in
     let entry = start .args .settled .now in
-    (latch-place _ _ _ _ _ (pre .0) entry (pre .1) _ (pre .0 .below), omega (arith, pre .0 .size, pre .1))
+    (latch-place _ _ _ _ _ (pre .0) entry (pre .1) _ (pre .0 .below), omega (arith, pre .0 .size, pre .1, cube-bytes (start .args .latches)))
 
 add-k : tie.Need-add-k Inv-loop μ-loop
 add-k c = omega arith

@@ -15,8 +15,8 @@ returns c = board-refuses _ _ _ _ _ _ _ (c .before .board-refusal .ensures) (c .
 returns-2 : tie.Need-returns-2
 returns-2 c = interval-over _ _ _ _ _ _ (sym (c .before .if1 .left) ∙ c .before .before .board-refusal .ensures) (omega arith)
 
-record-length-requires : tie.Need-record-length-requires
-record-length-requires c κs = search needs
+cube-bytes-requires : tie.Need-cube-bytes-requires
+cube-bytes-requires c κs = search needs
 
 returns-3 : tie.Need-returns-3
 returns-3 c = cubes-short _ _ _ _ _ _ (sym (c .before .before .before .if1 .left) ∙ c .before .before .before .before .board-refusal .ensures) (omega arith) (omega arith)
@@ -24,17 +24,20 @@ returns-3 c = cubes-short _ _ _ _ _ _ (sym (c .before .before .before .if1 .left
 returns-4 : tie.Need-returns-4
 returns-4 c = cubes-over _ _ _ _ _ _ (sym (c .before .before .before .before .if1 .left) ∙ c .before .before .before .before .before .board-refusal .ensures) (omega arith) (omega arith) (omega arith)
 
-record-length-requires-2 : tie.Need-record-length-requires-2
-record-length-requires-2 c κs = search needs
+record-length-requires : tie.Need-record-length-requires
+record-length-requires c κs = search needs
 
 returns-5 : tie.Need-returns-5
 returns-5 c = verdict-short _ _ _ _ _ _ (sym (c .before .before .before .before .before .before .if1 .left) ∙ c .before .before .before .before .before .before .before .board-refusal .ensures) (omega arith) (omega arith) (omega arith) (omega arith)
 
+record-length-requires-2 : tie.Need-record-length-requires-2
+record-length-requires-2 c κs = search needs
+
 returns-6 : tie.Need-returns-6
-returns-6 c = settled-short _ _ _ _ _ _ (sym (c .before .before .before .before .before .before .before .if1 .left) ∙ c .before .before .before .before .before .before .before .before .board-refusal .ensures) (omega arith) (omega arith) (omega arith) (omega arith) (omega arith)
+returns-6 c = settled-short _ _ _ _ _ _ (sym (c .before .before .before .before .before .before .before .before .if1 .left) ∙ c .before .before .before .before .before .before .before .before .before .board-refusal .ensures) (omega arith) (omega arith) (omega arith) (omega arith) (omega arith)
 
 returns-7 : tie.Need-returns-7
-returns-7 c = run-passes _ _ _ _ _ _ (sym (c .before .before .before .before .before .before .before .if1 .left) ∙ c .before .before .before .before .before .before .before .before .board-refusal .ensures) (omega arith) (omega arith) (omega arith) (omega arith) (omega arith)
+returns-7 c = run-passes _ _ _ _ _ _ (sym (c .before .before .before .before .before .before .before .before .if1 .left) ∙ c .before .before .before .before .before .before .before .before .before .board-refusal .ensures) (omega arith) (omega arith) (omega arith) (omega arith) (omega arith)
 
 pub run-refusal-spec : {M : Type 1} → statement M
 run-refusal-spec =
@@ -43,10 +46,11 @@ run-refusal-spec =
     board-refusal-requires
     returns
     returns-2
-    record-length-requires
+    cube-bytes-requires
     returns-3
     returns-4
-    record-length-requires-2
+    record-length-requires
     returns-5
+    record-length-requires-2
     returns-6
     returns-7)

@@ -1,6 +1,6 @@
 -- `stored::kept` meets its contract: it is the definition. Assumes nothing.
 use mathlib.Core.Path.{refl}
-use Rattle.stored.specs.CubesInCode.{keptByte}
+use Rattle.cubes.specs.HeldInCode.{keptByte}
 use borrow.Author.Needs.{needs}
 use Rattle.stored.proofs.kept.Statement.{statement}
 use Rattle.stored.proofs.kept.Tie as tie

@@ -1,10 +1,12 @@
 -- `stored::store_start` meets its contract: its bytes are stored in turn. Assumes nothing.
+use mathlib.Core.Path.{_∙_}
 use Prim.Native.Nat.{_-_}
 use Rattle.three.specs.Record.{bytesFor, pack}
 use Rattle.three.proofs.Loops.{Stored, stored-first}
 use Rattle.three.proofs.Filling.{fill-next, fill-last}
 use Rattle.stored.specs.CubesInCode.{startFields}
-use Rattle.stored.proofs.Starting.{start-sized}
+use Rattle.cubes.proofs.StoredCube.{cube-bytes}
+use Rattle.stored.proofs.Starting.{start-sized, start-stored}
 use native.Mathlib.Omega.{arith}
 use Rattle.stored.proofs.store_start.Statement.{statement}
 use Rattle.stored.proofs.store_start.Tie as tie
@@ -15,8 +17,8 @@ Inv-loop table count cubes₀ k₀ k-end cubes k = Stored cubes₀ 0 (pack (star
 abbrev μ-loop : tie.MeasureT-loop
 μ-loop table count cubes₀ k₀ k-end cubes k = k-end - k
 
-record-length-requires : tie.Need-record-length-requires Inv-loop μ-loop
-record-length-requires c κs = tt
+cube-bytes-requires : tie.Need-cube-bytes-requires Inv-loop μ-loop
+cube-bytes-requires c κs = tt
 
 loop-holds : tie.Need-loop-holds Inv-loop μ-loop
 loop-holds c = stored-first _ _ _ _
@@ -34,13 +36,15 @@ loop-less : tie.Need-loop-less Inv-loop μ-loop
 loop-less c = omega arith
 
 loop-again : tie.Need-loop-again Inv-loop μ-loop
-loop-again c = fill-next _ _ (start-sized _ _) _ _ _ _ (c .before .before .before .before .before .before .pre .2) (c .before .before .loop .inv) (omega arith) (c .start-byte .ensures)
+loop-again c =
+    let whole = c .before .before .before .before .before .before .args .count in
+    fill-next _ _ (start-sized _ _) _ _ _ _ (rw cube-bytes at (c .before .before .before .before .before .before .pre .2)) (c .before .before .loop .inv) (omega (arith, cube-bytes whole)) (c .start-byte .ensures)
 
 same-length : tie.Need-same-length Inv-loop μ-loop
 same-length c = c .before .loop .inv .long
 
 returns : tie.Need-returns Inv-loop μ-loop
-returns c = fill-last _ _ (start-sized _ _) _ _ _ (c .before .loop .inv) (omega arith)
+returns c = fill-last _ _ (start-sized _ _) _ _ _ (c .before .loop .inv) (omega (arith, cube-bytes (c .before .before .before .before .before .args .count))) ∙ start-stored _ _ _
 
 pub store-start-spec : {M : Type 1} → statement M
 store-start-spec =
@@ -48,7 +52,7 @@ store-start-spec =
     (tie.spec
     Inv-loop
     μ-loop
-    record-length-requires
+    cube-bytes-requires
     loop-holds
     start-byte-requires
     slice-write-cubes

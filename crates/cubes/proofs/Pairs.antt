@@ -15,9 +15,8 @@ use Rattle.three.specs.Record.{byteOf, byteAt}
 use Rattle.three.proofs.Bytes.{code-small}
 use Rattle.three.proofs.Table.{same-answers}
 use Rattle.three.proofs.Fields.{of-two}
 use Rattle.cubes.specs.Run.{hold, differing}
-use Rattle.chain.specs.ChainInCode.{heldPair, heldByte, differingByte}
-use Rattle.stored.specs.CubesInCode.{keptByte}
+use Rattle.cubes.specs.HeldInCode.{heldPair, heldByte, keptByte, differingByte}
 
 -- ---- four pairs, and an operation on bits that goes pair by pair
 

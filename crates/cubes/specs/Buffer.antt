@@ -1,0 +1,35 @@
+-- A cube in the buffer (document 01, Run), and where it stands. What its bytes are is opened in proofs/StoredCube alone. Assumes nothing.
+use mathlib.Core.List.{List, flatMap}
+use Prim.Native.Nat.{ℕ, _*_}
+use lib.ListN.{drop}
+use Rattle.three.specs.Lists.{tabulate}
+use Rattle.three.specs.Cube.{Cube}
+use Rattle.three.specs.Record.{bytesFor, pack, unpack, IsRecord}
+
+-- how many bytes a stored cube takes
+unfoldable pub cubeBytes : ℕ → ℕ
+cubeBytes latches = bytesFor latches
+
+-- and at most, of 512 latches
+abbrev pub longestCube : ℕ
+longestCube = 128
+
+-- a stored cube's record
+unfoldable pub packCube : Cube → List ℕ
+packCube cube = pack cube
+
+-- these bytes open with a stored cube
+unfoldable pub IsCube : ℕ → List ℕ → Type 0
+IsCube latches bytes = IsRecord latches bytes
+
+-- which is
+unfoldable pub cubeOf : ℕ → List ℕ → Cube
+cubeOf latches bytes = unpack latches bytes
+
+-- cube number k starts at byte k × record length
+unfoldable pub cubeIn : ℕ → List ℕ → ℕ → Cube
+cubeIn latches buffer k = cubeOf latches (drop (k * cubeBytes latches) buffer)
+
+-- cubes 0 to n − 1, one after the other
+unfoldable pub packCubes : (ℕ → Cube) → ℕ → List ℕ
+packCubes cubes n = flatMap packCube (tabulate n cubes)
