@@ -13,7 +13,7 @@ use Rattle.three.specs.Value.{Three, unknown, code}
 use Rattle.three.specs.Cube.{Cube, alike, allows, subsumes, blank}
 use Rattle.three.proofs.Lists.{length-adjust, each-map}
 use Rattle.circuit.specs.Circuit.{Circuit, next}
-use Rattle.cubes.specs.Run.{hold, differing, due, nextCube, start, Stage, reached, widened, store, stage, cubeAt, nowhere, Ending, closed, full, run}
+use Rattle.cubes.specs.Run.{hold, differing, due, nextCube, start, Stage, reached, widened, store, stage, cubeAt, nowhere, Ending, stops, full, run}
 use Rattle.cubes.proofs.Steps.{last-fails, Looked, Ran, begun, stays, closes, goes-on, ran}
 use Rattle.cubes.proofs.Wider.{reached-sized, cube-sized}
 
@@ -131,7 +131,7 @@ module _ (c : Circuit) (w : ℕ) where
   still-open pos (goes-on {k = k} past l) =
       let h = still-open pos past in (pace k l pos (h .0), omega (arith, mul-le-mul-left w (some-left k l)))
 
-  few-cubes : {room n j : ℕ} → 1 ≤ w → Ran c w room (closed n j) → n ≤ w * length (c .latches) + 1
+  few-cubes : {room n j : ℕ} → 1 ≤ w → Ran c w room (stops n j) → n ≤ w * length (c .latches) + 1
   few-cubes pos (stays past) = few-cubes pos past
   few-cubes pos (closes past l) = omega (arith, still-open pos past)
 
@@ -141,12 +141,12 @@ module _ (c : Circuit) (w : ℕ) where
 pub record ClosesWithin (bound : ℕ) (outcome : Ending) : Type 0 where
   pub n : ℕ
   pub j : ℕ
-  pub is-closed : outcome ≡ closed n j
+  pub is-closed : outcome ≡ stops n j
   pub few : n ≤ bound
 
 pub run-closes : (c : Circuit) (w room : ℕ) → 1 ≤ w → w * length (c .latches) + 1 ≤ room → ClosesWithin (w * length (c .latches) + 1) (run c w room)
 run-closes c w room pos enough = go (run c w room) (ran c w room)
   where
     go : (o : Ending) → Ran c w room o → ClosesWithin (w * length (c .latches) + 1) o
-    go (closed n j) r = record { n = n; j = j; is-closed = refl; few = few-cubes c w pos r }
+    go (stops n j) r = record { n = n; j = j; is-closed = refl; few = few-cubes c w pos r }
     go full r = absurd (omega (arith, still-open c w pos r))

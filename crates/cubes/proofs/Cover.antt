@@ -16,7 +16,7 @@ use Rattle.circuit.proofs.Sound.{next-sound, lamps-sound}
 use Rattle.cubes.specs.Run.{switchesUnknown, nextCube, lampsIn, start, verdict, settled}
 use Rattle.cubes.specs.OutcomesInCode.{Inside, place}
 use Rattle.cubes.specs.Execution.{settings, stateAfter, lampsAfter}
-use Rattle.cubes.proofs.Wider.{merge-widens}
+use Rattle.cubes.proofs.Wider.{mergeFrom-widens}
 use Rattle.cubes.proofs.Places.{place-early, place-late, place-below, place-last, place-next}
 
 -- ---- one tick with all switches X
@@ -79,7 +79,7 @@ module _ {c : Circuit} {cubes : ℕ → Cube} {n origin : ℕ} {follow : ℕ →
     verdict-covers : (t : ℕ) → verdict c cubes n ∋ lampsAfter c switches first t
     unfolding verdict lampsAfter
     verdict-covers t =
-        merge-widens _ _ (λ k. lamps-sized c (cubes k)) 0 (n - 1) (visited origin follow t) (omega arith)
+        mergeFrom-widens _ _ _ (λ k. lamps-sized c (cubes k)) 0 n (visited origin follow t) (omega arith)
         (omega (arith, visited-below t)) (lamps-within c switches t (visited-covers t))
 
     -- a lamp of known verdict has that value at every tick
@@ -124,12 +124,12 @@ module _ {c : Circuit} {cubes : ℕ → Cube} {n j : ℕ} (chain : Chain c cubes
     pub place-covers : (t : ℕ) → cubes (place n j t) ∋ stateAfter c switches first t
     place-covers t = rw (visited-place n j t (chain .below)) at (visited-covers chain-cover switches from t)
 
-    settled-covers : (t : ℕ) → j ≤ t → settled cubes n j ∋ stateAfter c switches first t
+    settled-covers : (t : ℕ) → j ≤ t → settled c cubes n j ∋ stateAfter c switches first t
     unfolding settled
     settled-covers t late =
-        merge-widens cubes _ (chain .sized) j (n - 1 - j) (place n j t) (omega (arith, place-late n j t late))
+        mergeFrom-widens _ cubes _ (chain .sized) j (n - j) (place n j t) (omega (arith, place-late n j t late))
         (omega (arith, place-below n j t (chain .below))) (place-covers t)
 
     -- a settled latch has its value at every tick from j on
-    pub latch-known : (i : ℕ) (v : Bool) → getD (settled cubes n j) i unknown ≡ known v → (t : ℕ) → j ≤ t → getD (stateAfter c switches first t) i false ≡ v
+    pub latch-known : (i : ℕ) (v : Bool) → getD (settled c cubes n j) i unknown ≡ known v → (t : ℕ) → j ≤ t → getD (stateAfter c switches first t) i false ≡ v
     latch-known i v e t late = known-at (settled-covers t late) i v e

@@ -2,7 +2,7 @@
 use mathlib.Core.Path.{_≡_, sym, _∙_}
 use mathlib.Core.Bool.{Bool, true, false, false≢true}
 use mathlib.Core.List.{List, [], _∷_}
-use Prim.Native.Nat.{ℕ, zero, suc, _+_, _≤_}
+use Prim.Native.Nat.{ℕ, zero, suc, _+_, _<_, _≤_}
 use native.Mathlib.Decide.{decLe}
 use native.Mathlib.Omega.{arith}
 use lib.ListN.{length, length-map}
@@ -12,7 +12,7 @@ use Rattle.three.specs.Cube.{Cube, alike, allows, subsumes, blank, agree, merge
 use Rattle.three.proofs.Lists.{and-parts, length-adjust, each-adjust}
 use Rattle.three.proofs.Merge.{length-merged}
 use Rattle.circuit.specs.Circuit.{Circuit, next}
-use Rattle.cubes.specs.Run.{hold, nextCube, start, reached, Stage, store, stage, cubeAt, merge}
+use Rattle.cubes.specs.Run.{hold, nextCube, start, reached, Stage, store, stage, cubeAt, merge, mergeFrom}
 use Rattle.cubes.specs.OutcomesInCode.{Inside}
 
 -- ---- held latches
@@ -87,6 +87,17 @@ module _ (cubes : ℕ → Cube) (size : ℕ) (sized : (k : ℕ) → length (cube
       go : Dec (i ≤ k + more) → (i ≤ k + more → merge cubes k more ∋ s) → merge cubes k (suc more) ∋ s
       go (yes early) rest = merged-left _ (rest early)
       go (no late) rest = let e : i ≡ k + suc more = omega arith in merged-right _ (merge-sized more ∙ sym (sized _)) (rw e at h)
+
+module _ (none : Cube) (cubes : ℕ → Cube) (size : ℕ) (sized : (k : ℕ) → length (cubes k) ≡ size) (k : ℕ) where
+  pub mergeFrom-sized : length none ≡ size → (count : ℕ) → length (mergeFrom none cubes k count) ≡ size
+  unfolding mergeFrom
+  mergeFrom-sized e zero = e
+  mergeFrom-sized e (suc more) = merge-sized cubes size sized k more
+
+  pub mergeFrom-widens : (count i : ℕ) → k ≤ i → i < k + count → {s : List Bool} → cubes i ∋ s → mergeFrom none cubes k count ∋ s
+  unfolding mergeFrom
+  mergeFrom-widens zero i l u h = absurd (omega arith)
+  mergeFrom-widens (suc more) i l u h = merge-widens cubes size sized k more i l (omega arith) h
 
 -- ---- the cubes of a run
 

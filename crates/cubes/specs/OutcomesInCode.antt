@@ -3,11 +3,11 @@ use mathlib.Core.Bool.{Bool, true, false}
 use mathlib.Core.List.{List}
 use Prim.Native.Nat.{ℕ, _+_, _-_, _%_, min}
 use Rattle.three.specs.Cube.{Cube, _∋_}
-use Rattle.cubes.specs.Run.{Ending, closed, full}
+use Rattle.cubes.specs.Run.{Ending, stops, full}
 
-unfoldable pub isClosed : Ending → Bool
-isClosed (closed n j) = true
-isClosed full = false
+unfoldable pub hasStopped : Ending → Bool
+hasStopped (stops n j) = true
+hasStopped full = false
 
 -- every state of a lies in b
 abbrev pub Inside : Cube → Cube → Type 0
