@@ -58,14 +58,9 @@ hold-wider ss empty = empty
 hold-wider empty (also e es) = also e es
 hold-wider (also s ss) (also {a = x} {b = y} e es) = also (blank-wider s x y e) (hold-wider ss es)
 
-blank-contains : (a b : Three) (now : Bool) → Wider a b → Wider (blank a now) b
-unfolding blank allows alike code
-blank-contains a b true e = refl
-blank-contains a b false e = e
-
 pub hold-contains : (now : List Bool) (b : Cube) → Each Wider (hold now b) b
-unfolding hold
-hold-contains now b = each-adjust blank blank-contains (each-self allows-self b) now
+unfolding hold blank
+hold-contains now b = each-adjust blank (λ x y d. blank-wider (free {now = d}) x y) (each-self allows-self b) now
 
 -- b, with the latches held whose value in a and b differs, contains a
 differing-wider : (h : Bool) (x y : Three) → Wider (blank y (h || not (alike x y))) x
