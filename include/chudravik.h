@@ -54,6 +54,12 @@ extern "C" {
  * where it is lent. */
 #define CHUDRAVIK_RECORD_BYTES(fields) ((size_t)(fields) == 0 ? (size_t)1 : ((size_t)(fields) + 3) / 4)
 
+/* Bytes of a cube buffer that are always enough for a run with w >= 1: room for w + latches cubes, and for one where there
+ * is no latch. Such a run is never refused with 15. No buffer is longer than CHUDRAVIK_MOST_CUBE_BYTES (13); with w = 16
+ * that is always enough for up to 504 latches. */
+#define CHUDRAVIK_ROOM_BYTES(w, latches) \
+    ((size_t)(latches) == 0 ? (size_t)1 : ((size_t)(w) + (size_t)(latches)) * CHUDRAVIK_RECORD_BYTES(latches))
+
 /* Field i of a record: CHUDRAVIK_UNKNOWN, CHUDRAVIK_LOW or CHUDRAVIK_HIGH. */
 #define CHUDRAVIK_FIELD(record, i) (((record)[(i) / 4] >> (6 - 2 * ((i) % 4))) & 3)
 #define CHUDRAVIK_UNKNOWN 0

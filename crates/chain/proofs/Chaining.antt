@@ -20,7 +20,7 @@ use Rattle.cubes.specs.Run.{hold, due, nextCube, start, Stage, reached, widened
 use Rattle.stored.specs.CubesInCode.{startFields, keptBytes, coversFrom, first, SwitchesX}
 use Rattle.chain.specs.ChainInCode.{widenedBytes, heldAfter, Advanced}
 use Rattle.cubes.proofs.Wider.{reached-sized}
-use Rattle.cubes.proofs.Closes.{held-sized}
+use Rattle.cubes.proofs.Growing.{held-sized}
 use Rattle.stored.proofs.Keeping.{length-kept}
 use Rattle.stored.proofs.Starting.{start-fields}
 use Rattle.cubes.proofs.Storing.{records-sized, stored-more, stored-cube, stored-sound, stored-byte}

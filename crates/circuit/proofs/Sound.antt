@@ -12,10 +12,10 @@ use Rattle.circuit.specs.Circuit.{Circuit, Latch, Gate, signed, value, p
 
 -- ---- a relation that the operations of two logics keep is kept by a circuit
 
-record Keeps {A B : Type 0} (R : A → B → Type 0) (l : Logic A) (m : Logic B) : Type 0 where
-  false : R (l .false) (m .false)
-  and : {a a′ : A} {b b′ : B} → R a b → R a′ b′ → R (l .and a a′) (m .and b b′)
-  invert : {a : A} {b : B} → R a b → R (l .invert a) (m .invert b)
+pub record Keeps {A B : Type 0} (R : A → B → Type 0) (l : Logic A) (m : Logic B) : Type 0 where
+  pub false : R (l .false) (m .false)
+  pub and : {a a′ : A} {b b′ : B} → R a b → R a′ b′ → R (l .and a a′) (m .and b b′)
+  pub invert : {a : A} {b : B} → R a b → R (l .invert a) (m .invert b)
 
 module _ {A B : Type 0} {R : A → B → Type 0} {l : Logic A} {m : Logic B} (keeps : Keeps R l m) where
   signed-keeps : (n : ℕ) {a : A} {b : B} → R a b → R (signed l n a) (signed m n b)
@@ -38,7 +38,7 @@ module _ {A B : Type 0} {R : A → B → Type 0} {l : Logic A} {m : Logic B} (ke
     unfolding settle
     settle-keeps = pass-keeps (c .gates) (also (keeps .false) (each-append in-switches in-state))
 
-    next-keeps : Each R (next l c switches state) (next m c r s)
+    pub next-keeps : Each R (next l c switches state) (next m c r s)
     unfolding next
     next-keeps = each-map _ _ (λ (x : Latch). value-keeps settle-keeps (x .next)) (c .latches)
 

@@ -1,141 +1,75 @@
--- With w at least 1 a run of L latches closes within w × L + 1 cubes: where the search after a cube finds nothing,
--- widening holds at least one latch more, and a held latch stays X. Assumes nothing.
-use mathlib.Core.Path.{_≡_, refl, sym, ap, _∙_}
-use mathlib.Core.Bool.{Bool, true, false, not, _&&_, _||_, true≢false, false≢true}
-use mathlib.Core.List.{List, [], _∷_, zipWith}
-use mathlib.Core.Logic.{_≢_}
+-- With w at least 1 a run of L latches closes within w + L cubes, and with no latch at once: from cube w − 1 on each cube contains the
+-- one before it, and where the run goes on it is not that one, so it knows a latch less. Assumes nothing.
+use mathlib.Core.Path.{_≡_, refl, sym, _∙_}
+use mathlib.Core.Bool.{true, true≢false}
+use mathlib.Core.Logic.{_⊎_, inl, inr}
 use Prim.Native.Nat.{ℕ, zero, suc, _+_, _*_, _≤_, _<_}
-use native.Mathlib.Nat.{mul-mod-right, mul-le-mul-left, mul-suc}
+use native.Mathlib.Nat.{mul-suc, suc-mul}
+use native.Mathlib.Decide.{decLt}
 use native.Mathlib.Omega.{arith}
-use lib.ListN.{length, length-map}
-use Rattle.three.specs.Lists.{adjust, Each, empty, also}
-use Rattle.three.specs.Value.{Three, unknown, code}
-use Rattle.three.specs.Cube.{Cube, alike, allows, subsumes, blank}
-use Rattle.three.proofs.Lists.{length-adjust, each-map}
-use Rattle.circuit.specs.Circuit.{Circuit, next}
-use Rattle.cubes.specs.Run.{hold, differing, due, nextCube, start, Stage, reached, widened, store, stage, cubeAt, nowhere, Ending, stops, full, run}
+use lib.ListN.{length}
+use Rattle.three.specs.Lists.{every}
+use Rattle.three.specs.Cube.{subsumes, knownFields}
+use Rattle.three.proofs.Counting.{known-fields-le}
+use Rattle.three.proofs.Merge.{subsumes-every}
+use Rattle.three.proofs.Subsuming.{each-subsumes, known-fewer}
+use Rattle.circuit.specs.Circuit.{Circuit}
+use Rattle.cubes.specs.Run.{reached, store, stage, cubeAt, nowhere, Ending, stops, full, run}
+use Rattle.cubes.specs.Promise.{mostCubes}
 use Rattle.cubes.proofs.Steps.{last-fails, Looked, Ran, begun, stays, closes, goes-on, ran}
 use Rattle.cubes.proofs.Wider.{reached-sized, cube-sized}
-
--- ---- how many latches are held
-
-count : List Bool → ℕ
-count [] = 0
-count (true ∷ hs) = suc (count hs)
-count (false ∷ hs) = count hs
-
-count-length : (hs : List Bool) → count hs ≤ length hs
-unfolding count
-count-length [] = omega arith
-count-length (true ∷ hs) = omega (arith, count-length hs)
-count-length (false ∷ hs) = omega (arith, count-length hs)
-
-count-grows : (hs ds : List Bool) → count hs ≤ count (adjust _||_ hs ds)
-unfolding count adjust
-count-grows [] ds = omega arith
-count-grows (h ∷ hs) [] = omega arith
-count-grows (true ∷ hs) (d ∷ ds) = omega (arith, count-grows hs ds)
-count-grows (false ∷ hs) (true ∷ ds) = omega (arith, count-grows hs ds)
-count-grows (false ∷ hs) (false ∷ ds) = count-grows hs ds
-
--- ---- held latches are X
-
-data Kept : Bool → Three → Type 0 where
-  free : {v : Three} → Kept false v
-  kept : Kept true unknown
-
-hold-keeps : (held : List Bool) (b : Cube) → length held ≡ length b → Each Kept held (hold held b)
-unfolding hold adjust blank
-hold-keeps [] [] e = empty
-hold-keeps [] (v ∷ b) e = absurd (omega arith)
-hold-keeps (h ∷ hs) [] e = absurd (omega arith)
-hold-keeps (true ∷ hs) (v ∷ b) e = also kept (hold-keeps hs b (omega arith))
-hold-keeps (false ∷ hs) (v ∷ b) e = also free (hold-keeps hs b (omega arith))
-
-widened-sized : (d : Bool) (s : Stage) (b : Cube) → length (widened d s b) ≡ length (s .held)
-unfolding widened
-widened-sized true s b = length-adjust _||_ (s .held) (differing (s .cube) b)
-widened-sized false s b = refl
+use Rattle.cubes.proofs.Growing.{hold-contains, Grows, grows}
 
 module _ (c : Circuit) (w : ℕ) where
-  pub held-sized : (k : ℕ) → length (stage c w k .held) ≡ length (c .latches)
-  unfolding stage store
-  held-sized zero = length-map (c .latches) _
-  held-sized (suc k) = widened-sized _ (stage c w k) _ ∙ held-sized k
+  -- how many latches are known in cube number k
+  knownIn : ℕ → ℕ
+  knownIn k = knownFields (cubeAt c w k)
 
-  stage-keeps : (k : ℕ) → Each Kept (stage c w k .held) (stage c w k .cube)
-  unfolding stage store start
-  stage-keeps zero = each-map _ _ (λ l. free) (c .latches)
-  stage-keeps (suc k) = hold-keeps _ _ (held-sized (suc k) ∙ sym (reached-sized c (stage c w k)))
-
--- ---- where the last cube does not subsume b, widening holds at least one latch more
-
--- one field: X in the last cube or not, the same in b or not; where it is the same, a later field is the reason
-field-progress : (x same : Bool) {rest : Bool} {n : ℕ} (ds : List Bool) → ((x || same) && rest) ≡ false
-    → (rest ≡ false → n < count ds) → n ≤ count ds → n < count (not same ∷ ds)
-unfolding count
-field-progress x false ds f later le = omega arith
-field-progress true true ds f later le = later f
-field-progress false true ds f later le = later f
-
-progress : {held : List Bool} {a : Cube} → Each Kept held a → (b : Cube) → length b ≡ length a → subsumes a (hold held b) ≡ false
-    → count held < count (adjust _||_ held (differing a (hold held b)))
-unfolding count adjust hold subsumes allows differing zipWith blank alike code
-progress empty [] e f = absurd (true≢false f)
-progress empty (y ∷ b) e f = absurd (omega arith)
-progress (also k ks) [] e f = absurd (omega arith)
-progress (also kept ks) (y ∷ b) e f = omega (arith, progress ks b (omega arith) f)
-progress (also {xs = hs} {ys = a} (free {v = x}) ks) (y ∷ b) e f =
-    field-progress (alike x unknown) (alike x y) (adjust _||_ hs (differing a (hold hs b))) f (progress ks b (omega arith)) (count-grows hs _)
-
--- ---- the count of held latches keeps pace with the cube's number
-
-multiple-due : (w x : ℕ) → 1 ≤ w → due w (w * x) ≡ true
-unfolding due
-multiple-due zero x pos = absurd (omega arith)
-multiple-due (suc w) x pos = rw mul-mod-right
-
-module _ (c : Circuit) (w : ℕ) where
-  -- how many latches are held with cube number k
-  heldCount : ℕ → ℕ
-  heldCount k = count (stage c w k .held)
-
-  -- what is held after cube number k, if the next is due (true) or not
-  abbrev heldIf : Bool → ℕ → List Bool
-  heldIf d k = widened d (stage c w k) (reached c (stage c w k))
+  few-known : (k : ℕ) → knownIn k ≤ length (c .latches)
+  unfolding knownIn
+  few-known k = omega (arith, known-fields-le (cubeAt c w k), cube-sized c w k)
 
   -- after a cube that closes nothing
   module _ (k : ℕ) (open-yet : Looked c w k nowhere) where
-    more-held : heldCount k < count (heldIf true k)
-    unfolding heldCount widened reached cubeAt nextCube next
-    more-held =
-        progress (stage-keeps c w k) (nextCube c (stage c w k .cube)) (length-map (c .latches) _ ∙ sym (cube-sized c w k))
-        (last-fails open-yet)
-
-    some-left : heldCount k < length (c .latches)
-    some-left = omega (arith, more-held, held-sized c w k, widened-sized true (stage c w k) (reached c (stage c w k)), count-length (heldIf true k))
-
-    pace : 1 ≤ w → k < w * suc (heldCount k) → suc k < w * suc (heldCount (suc k))
-    unfolding heldCount stage store widened
-    pace pos h = go (due w (suc k)) refl
+    falls : Grows c w k → knownIn (suc k) < knownIn k
+    unfolding knownIn cubeAt stage store
+    falls h = go (known-fewer h)
       where
-        go : (d : Bool) → due w (suc k) ≡ d → suc k < w * suc (count (heldIf d k))
-        go true e = omega (arith, mul-suc w (heldCount k), mul-suc w (count (heldIf true k)), mul-le-mul-left w more-held)
-        go false e =
-            let apart : suc k ≢ w * suc (heldCount k) = λ same. false≢true (sym e ∙ ap (due w) same ∙ multiple-due w _ pos) in
-            omega arith
+        go : (cubeAt c w (suc k) ≡ cubeAt c w k) ⊎ (knownIn (suc k) < knownIn k) → knownIn (suc k) < knownIn k
+        go (inr fewer) = fewer
+        go (inl same) =
+            let inside : subsumes (cubeAt c w (suc k)) (reached c (stage c w k)) ≡ true = each-subsumes (hold-contains _ _) in
+            absurd (true≢false (sym (rw same at inside) ∙ last-fails open-yet))
 
-  -- a run not closed yet has stored no more cubes than w × L
-  still-open : {k : ℕ} → 1 ≤ w → Ran c w k full → (k < w * suc (heldCount k)) × (k ≤ w * length (c .latches))
-  still-open pos begun = (omega (arith, mul-suc w (heldCount 0)), omega arith)
-  still-open pos (goes-on {k = k} past l) =
-      let h = still-open pos past in (pace k l pos (h .0), omega (arith, mul-le-mul-left w (some-left k l)))
+    some-latch : length (c .latches) ≡ 0 → ⊥
+    unfolding every
+    some-latch none =
+        let bare = cube-sized c w k ∙ none in
+        let inside = subsumes-every (cubeAt c w k) (reached c (stage c w k)) (bare ∙ sym (reached-sized c (stage c w k) ∙ none)) in
+        true≢false (sym (rw bare at inside) ∙ last-fails open-yet)
 
-  few-cubes : {room n j : ℕ} → 1 ≤ w → Ran c w room (stops n j) → n ≤ w * length (c .latches) + 1
-  few-cubes pos (stays past) = few-cubes pos past
-  few-cubes pos (closes past l) = omega (arith, still-open pos past)
+  module _ (pos : 1 ≤ w) where
+    -- in a run not closed yet each cube from number w on knows a latch less
+    still-known : {k : ℕ} → Ran c w k full → knownIn k + k < w + length (c .latches)
+    still-known begun = omega (arith, few-known 0)
+    still-known (goes-on {k = k} past l) = go (decLt (suc k) w) (still-known past)
+      where
+        go : Dec (suc k < w) → knownIn k + k < w + length (c .latches) → knownIn (suc k) + suc k < w + length (c .latches)
+        go (yes early) before = omega (arith, few-known (suc k))
+        go (no late) before = omega (arith, falls k l (grows c w k pos (omega arith)))
 
--- ---- closing
+    still-open : {k : ℕ} → Ran c w k full → k < mostCubes w (length (c .latches))
+    unfolding mostCubes
+    still-open = go (length (c .latches)) refl
+      where
+        go : (latches : ℕ) → length (c .latches) ≡ latches → {k : ℕ} → Ran c w k full → k < mostCubes w latches
+        go zero e begun = omega arith
+        go zero e (goes-on {k = k} past l) = absurd (some-latch k l e)
+        go (suc latches) e r = omega (arith, still-known r)
+
+    few-cubes : {room n j : ℕ} → Ran c w room (stops n j) → n ≤ mostCubes w (length (c .latches))
+    few-cubes (stays past) = few-cubes past
+    few-cubes (closes past l) = still-open past
 
 -- a run closes, with at most so many cubes
 pub record ClosesWithin (bound : ℕ) (outcome : Ending) : Type 0 where
@@ -144,9 +78,16 @@ pub record ClosesWithin (bound : ℕ) (outcome : Ending) : Type 0 where
   pub is-closed : outcome ≡ stops n j
   pub few : n ≤ bound
 
-pub run-closes : (c : Circuit) (w room : ℕ) → 1 ≤ w → w * length (c .latches) + 1 ≤ room → ClosesWithin (w * length (c .latches) + 1) (run c w room)
+pub run-closes : (c : Circuit) (w room : ℕ) → 1 ≤ w → mostCubes w (length (c .latches)) ≤ room → ClosesWithin (mostCubes w (length (c .latches))) (run c w room)
 run-closes c w room pos enough = go (run c w room) (ran c w room)
   where
-    go : (o : Ending) → Ran c w room o → ClosesWithin (w * length (c .latches) + 1) o
+    go : (o : Ending) → Ran c w room o → ClosesWithin (mostCubes w (length (c .latches))) o
     go (stops n j) r = record { n = n; j = j; is-closed = refl; few = few-cubes c w pos r }
     go full r = absurd (omega (arith, still-open c w pos r))
+
+-- document 01's bound is never less
+pub most-within : (w latches : ℕ) → 1 ≤ w → mostCubes w latches ≤ w * latches + 1
+unfolding mostCubes
+most-within zero latches pos = absurd (omega arith)
+most-within (suc w) zero pos = omega arith
+most-within (suc w) (suc latches) pos = omega (arith, suc-mul w (suc latches), mul-suc w latches)

@@ -1,5 +1,6 @@
 pub mod Steps
 pub mod Wider
+pub mod Growing
 pub mod Closes
 pub mod Places
 pub mod Cover

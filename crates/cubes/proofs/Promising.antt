@@ -19,9 +19,9 @@ use Rattle.cubes.specs.Run.{cubeAt, Ending, stops, full, verdict, settle
 use Rattle.cubes.specs.Buffer.{cubeIn, packCubes}
 use Rattle.cubes.specs.Call.{roomIn, storedCubes, outcomeNumber, RunGiven, refusedBy, circuitIn, outcomeIn, cubesIn, backIn, verdictFields, settledFields, Runs}
 use Rattle.cubes.specs.OutcomesInCode.{hasStopped}
-use Rattle.cubes.specs.Promise.{Covered, Promises}
+use Rattle.cubes.specs.Promise.{mostCubes, Covered, Promises}
 use Rattle.cubes.proofs.Promise.{resets-start, covered-early, covered-late, lamp-judged, latch-settled}
-use Rattle.cubes.proofs.Closes.{run-closes}
+use Rattle.cubes.proofs.Closes.{run-closes, most-within}
 use Rattle.cubes.proofs.Buffered.{literals-counted, latches-counted, cubes-sized, lamps-counted, stopped-is, stopped-within, cube-in}
 use Rattle.cubes.proofs.Wider.{mergeFrom-sized}
 use Rattle.circuit.specs.Circuit.{Circuit}
@@ -131,14 +131,21 @@ module _ (g : RunGiven) (r : RunAnswer) (cubes verdict′ settled′ : List ℕ)
   unfolding circuitIn
   latches-sized = latches-counted (g .counts) (g .table)
 
-  run-within : refusedBy g ≡ 0 → 1 ≤ g .w → g .w * g .counts .latches + 1 ≤ roomIn (g .counts) (g .cubes) → (r .number ≡ 0) × (r .cubes ≤ g .w * g .counts .latches + 1)
+  run-sharply : refusedBy g ≡ 0 → 1 ≤ g .w → mostCubes (g .w) (g .counts .latches) ≤ roomIn (g .counts) (g .cubes)
+      → (r .number ≡ 0) × (r .cubes ≤ mostCubes (g .w) (g .counts .latches))
   unfolding outcomeIn cubesIn
-  run-within ok pos enough =
+  run-sharply ok pos enough =
       let within = run-closes (circuitIn g) (g .w) (roomIn (g .counts) (g .cubes)) pos (rw latches-sized enough) in
       let says = closed-says (roomIn (g .counts) (g .cubes)) (outcomeIn g) (within .is-closed) in
       let number : r .number ≡ 0 = runs .answers ∙ sym (accepted-new (refusedBy g) _ _ ok) ∙ says .0 in
       let count : r .cubes ≡ within .n = runs .counts ∙ sym (accepted-new (refusedBy g) _ _ ok) ∙ says .1 in
-      (number, omega (arith, count, within .few, ap (_*_ (g .w)) latches-sized))
+      (number, omega (arith, count, within .few, ap (mostCubes (g .w)) latches-sized))
+
+  run-within : refusedBy g ≡ 0 → 1 ≤ g .w → g .w * g .counts .latches + 1 ≤ roomIn (g .counts) (g .cubes) → (r .number ≡ 0) × (r .cubes ≤ g .w * g .counts .latches + 1)
+  run-within ok pos enough =
+      let less = most-within (g .w) (g .counts .latches) pos in
+      let sharply = run-sharply ok pos (omega (arith, less)) in
+      (sharply .0, omega (arith, less, sharply .1))
 
   pub promises : Promises g r cubes verdict′ settled′
-  promises = record { covers = run-covers; closes = run-within }
+  promises = record { covers = run-covers; closes = run-within; closes-sharply = λ ok pos enough. run-sharply ok (omega arith) enough }

@@ -2,7 +2,7 @@
 use mathlib.Core.Path.{_≡_}
 use mathlib.Core.Bool.{Bool, false}
 use mathlib.Core.List.{List}
-use Prim.Native.Nat.{ℕ, _+_, _*_, _-_, _%_, _<_, _≤_}
+use Prim.Native.Nat.{ℕ, zero, suc, _+_, _*_, _-_, _%_, _<_, _≤_}
 use lib.ListN.{getD}
 use Rattle.three.specs.Value.{unknown, known}
 use Rattle.three.specs.Cube.{_∋_}
@@ -11,6 +11,11 @@ use Rattle.cubes.specs.declared.RunAnswer.{RunAnswer}
 use Rattle.cubes.specs.Buffer.{cubeIn}
 use Rattle.cubes.specs.Call.{RunGiven, circuitIn, roomIn, refusedBy}
 use Rattle.cubes.specs.Execution.{stateAfter, lampsAfter, resets}
+
+-- the most cubes that a run takes with w at least 1: one where there is no latch, else w and one for each latch
+unfoldable pub mostCubes : ℕ → ℕ → ℕ
+mostCubes w zero = 1
+mostCubes w (suc latches) = w + suc latches
 
 module _ (g : RunGiven) (r : RunAnswer) (cubes verdict settled : List ℕ) where
   -- One execution from the resets: `switches t i` is switch i at tick t.
@@ -31,3 +36,6 @@ module _ (g : RunGiven) (r : RunAnswer) (cubes verdict settled : List ℕ) where
     -- with w at least 1 and room for w × L + 1 cubes a run that is not refused closes within them
     pub closes : refusedBy g ≡ 0 → 1 ≤ g .w → g .w * g .counts .latches + 1 ≤ roomIn (g .counts) (g .cubes)
         → (r .number ≡ 0) × (r .cubes ≤ g .w * g .counts .latches + 1)
+    -- less room is enough: with w at least 1 and room for w + L cubes (with no latch for one) a run that is not refused closes within them
+    pub closes-sharply : refusedBy g ≡ 0 → 1 ≤ g .w → mostCubes (g .w) (g .counts .latches) ≤ roomIn (g .counts) (g .cubes)
+        → (r .number ≡ 0) × (r .cubes ≤ mostCubes (g .w) (g .counts .latches))

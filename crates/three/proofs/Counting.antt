@@ -14,17 +14,17 @@ use Rattle.three.proofs.Pack.{pair-of-byte, sound-byte, sound-leftover,
 
 -- ---- fields
 
-known-fields-le : (fs : Cube) → knownFields fs ≤ length fs
+pub known-fields-le : (fs : Cube) → knownFields fs ≤ length fs
 unfolding knownFields
 known-fields-le [] = omega arith
 known-fields-le (unknown ∷ fs) = omega (arith, known-fields-le fs)
 known-fields-le (low ∷ fs) = omega (arith, known-fields-le fs)
 known-fields-le (high ∷ fs) = omega (arith, known-fields-le fs)
 
-abbrev count : Three → ℕ
+abbrev pub count : Three → ℕ
 count v = knownFields (v ∷ [])
 
-known-cons : (v : Three) (vs : Cube) → knownFields (v ∷ vs) ≡ count v + knownFields vs
+pub known-cons : (v : Three) (vs : Cube) → knownFields (v ∷ vs) ≡ count v + knownFields vs
 unfolding knownFields
 known-cons unknown vs = omega arith
 known-cons low vs = omega arith

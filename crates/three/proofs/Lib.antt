@@ -4,4 +4,5 @@ pub mod Pack
 pub mod Merge
 pub mod Bytewise
 pub mod Counting
+pub mod Subsuming
 pub mod Filling

@@ -105,6 +105,10 @@ each-getD empty r i = r
 each-getD (also s rs) r zero = s
 each-getD (also s rs) r (suc i) = each-getD rs r i
 
+pub each-self : {A : Type 0} {R : A → A → Type 0} → ((x : A) → R x x) → (l : List A) → Each R l l
+each-self same [] = empty
+each-self same (x ∷ l) = also (same x) (each-self same l)
+
 pub each-append : {A B : Type 0} {R : A → B → Type 0} {xs us : List A} {ys vs : List B} → Each R xs ys → Each R us vs → Each R (xs ++ us) (ys ++ vs)
 each-append empty ss = ss
 each-append (also r rs) ss = also r (each-append rs ss)

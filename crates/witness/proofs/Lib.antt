@@ -4,3 +4,4 @@ pub mod WrongVersions
 pub mod Order
 pub mod TickBoolean
 pub mod Switching
+pub mod Reached
