@@ -10,10 +10,10 @@ use native.Mathlib.Omega.{arith}
 use lib.ListN.{length, length-map}
 use Rattle.three.specs.Lists.{adjust, Each, empty, also}
 use Rattle.three.specs.Value.{Three, code}
-use Rattle.three.specs.Cube.{Cube, alike, allows, blank}
+use Rattle.three.specs.Cube.{Cube, alike, allows, subsumes, blank}
 use Rattle.three.proofs.Lists.{length-adjust, each-self, each-adjust}
 use Rattle.three.proofs.Merge.{of-two, allows-self}
-use Rattle.three.proofs.Subsuming.{Wider}
+use Rattle.three.proofs.Subsuming.{Wider, each-subsumes, subsumes-trans}
 use Rattle.circuit.specs.Circuit.{Circuit}
 use Rattle.circuit.proofs.Narrow.{next-wider}
 use Rattle.cubes.specs.Run.{hold, differing, due, switchesUnknown, nextCube, Stage, reached, widened, store, stage, cubeAt}
@@ -87,6 +87,14 @@ module _ (c : Circuit) (w : ℕ) where
   -- cube k + 1 contains cube k
   abbrev pub Grows : ℕ → Type 0
   Grows k = Each Wider (cubeAt c w (suc k)) (cubeAt c w k)
+
+  -- b contains the next state of cube k, and the cube stored next contains b
+  pub next-reached : (k : ℕ) → subsumes (reached c (stage c w k)) (nextCube c (cubeAt c w k)) ≡ true
+  unfolding reached cubeAt
+  next-reached k = each-subsumes (hold-contains (stage c w k .held) _)
+
+  pub next-stored : (k : ℕ) → subsumes (cubeAt c w (suc k)) (nextCube c (cubeAt c w k)) ≡ true
+  next-stored k = subsumes-trans (cubeAt c w (suc k)) (reached c (stage c w k)) _ (unfold cubeAt stage store in each-subsumes (hold-contains _ (reached c (stage c w k)))) (next-reached k)
 
   pub held-sized : (k : ℕ) → length (stage c w k .held) ≡ length (c .latches)
   unfolding stage store

@@ -13,7 +13,10 @@ use Rattle.cubes.specs.Run.{startField, start, stage, cubeAt, stops, run
 use Rattle.cubes.specs.Execution.{stateAfter, lampsAfter, resetBit, resets}
 use Rattle.cubes.specs.OutcomesInCode.{place}
 use Rattle.cubes.proofs.Steps.{found, Ran, stays, closes, ran}
-use Rattle.cubes.proofs.Wider.{subsumes-widens, cube-sized, next-reached, reached-stored}
+use Rattle.cubes.proofs.Wider.{cube-sized}
+use Rattle.cubes.proofs.Growing.{next-reached, next-stored}
+use Rattle.three.proofs.Merge.{subsumes-self}
+use Rattle.three.proofs.Subsuming.{subsumes-trans}
 use Rattle.cubes.proofs.Places.{place-early, place-late}
 use Rattle.cubes.proofs.Cover.{Chain, chain-cover, place-covers, lamp-known, latch-known}
 
@@ -37,9 +40,9 @@ chain-of c w (closes {k = k} past l) =
     let there = found l in
     record {
       sized = cube-sized c w;
-      starts = λ s h. h;
-      follows = λ i inner s h. reached-stored c w i s (next-reached c w i s h);
-      returns = λ i last s h. let same : i ≡ k = omega arith in subsumes-widens _ (there .1) (next-reached c w k s (rw same at h));
+      starts = subsumes-self (start c);
+      follows = λ i inner. next-stored c w i;
+      returns = λ i last. let same : i ≡ k = omega arith in rw same (subsumes-trans _ _ _ (there .1) (next-reached c w k));
       below = there .0;
     }
 
