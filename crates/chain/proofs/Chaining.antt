@@ -16,7 +16,7 @@ use Rattle.circuit.specs.declared.Counts.{Counts}
 use Rattle.circuit.specs.Circuit.{Circuit}
 use Rattle.circuit.specs.Table.{circuitOf}
 use Rattle.chain.specs.declared.Progress.{Progress}
-use Rattle.cubes.specs.Run.{hold, due, nextCube, start, Stage, reached, widened, store, stage, cubeAt, at, closed, full, back, run}
+use Rattle.cubes.specs.Run.{hold, due, nextCube, start, Stage, reached, widened, store, stage, cubeAt, at, stops, full, back, run}
 use Rattle.stored.specs.CubesInCode.{startFields, keptBytes, coversFrom, first, SwitchesX}
 use Rattle.chain.specs.ChainInCode.{widenedBytes, heldAfter, Advanced}
 use Rattle.cubes.proofs.Wider.{reached-sized}
@@ -25,7 +25,7 @@ use Rattle.stored.proofs.Keeping.{length-kept}
 use Rattle.stored.proofs.Starting.{start-fields}
 use Rattle.cubes.proofs.Storing.{records-sized, stored-more, stored-cube, stored-sound, stored-byte}
 use Rattle.stored.proofs.First.{first-ext, search-first}
-use Rattle.cubes.proofs.Steps.{run-closes-now, run-goes-on}
+use Rattle.cubes.proofs.Steps.{run-stops-now, run-goes-on}
 use Rattle.cubes.proofs.Buffered.{latches-counted, next-counted, cubes-sized}
 use Rattle.cubes.specs.Buffer.{cubeBytes, packCubes, packCube, IsCube, cubeOf, longestCube}
 use Rattle.cubes.proofs.StoredCube.{few-bytes, Bytes, cube-covers, HeldBytes, cube-at, cube-kept, none-held, cube-widened}
@@ -128,11 +128,11 @@ module _ (c : Counts) (words : List ℕ) (w : ℕ) (buffer : List ℕ) where
       looked : sought ≡ first (suc (g .last)) (λ k. subsumes (cubeAt circuit w k) (reached circuit here))
       looked = first-ext count _ _ covering ∙ ap (λ (n : ℕ). first n (λ k. subsumes (cubeAt circuit w k) (reached circuit here))) (g .counts)
 
-      pub closes-at : (j : ℕ) → j ≡ sought → j < count → run circuit w count ≡ closed count j
+      pub closes-at : (j : ℕ) → j ≡ sought → j < count → run circuit w count ≡ stops count j
       unfolding back
       closes-at j e h =
           let j= : first (suc (g .last)) (λ k. subsumes (cubeAt circuit w k) (reached circuit here)) ≡ j = sym looked ∙ sym e in
-          rw (g .counts) (run-closes-now circuit w (g .last) j (g .open-yet) (search-first (cubeAt circuit w) (reached circuit here) (suc (g .last)) .0 (omega (arith, g .counts)) ∙ ap at j=))
+          rw (g .counts) (run-stops-now circuit w (g .last) j (g .open-yet) (search-first (cubeAt circuit w) (reached circuit here) (suc (g .last)) .0 (omega (arith, g .counts)) ∙ ap at j=))
 
       pub goes-on : (j : ℕ) → j ≡ sought → count ≤ j → run circuit w count ≡ full
       unfolding back

@@ -13,11 +13,11 @@ use Rattle.circuit.specs.Table.{circuitOf}
 use Rattle.circuit.specs.RulesInCode.{Legal}
 use Rattle.chain.specs.declared.Progress.{Progress}
 use Rattle.chain.specs.declared.Chain.{Chain}
-use Rattle.cubes.specs.Run.{due, nextCube, cubeAt, closed, full, run}
+use Rattle.cubes.specs.Run.{due, nextCube, cubeAt, stops, full, run}
 use Rattle.stored.specs.CubesInCode.{startFields, keptBytes, coversFrom, first, SwitchesX}
 use Rattle.cubes.specs.Call.{roomIn, storedCubes, backTo}
 use Rattle.chain.specs.ChainInCode.{Advanced, Chained, Followable}
-use Rattle.cubes.specs.OutcomesInCode.{isClosed}
+use Rattle.cubes.specs.OutcomesInCode.{hasStopped}
 use Rattle.stored.proofs.Keeping.{length-kept, behind-one}
 use Rattle.cubes.proofs.Merging.{over-over, length-over}
 use Rattle.stored.proofs.Starting.{start-sized}
@@ -77,10 +77,10 @@ module _ (c : Counts) (words : List ℕ) (w len room : ℕ) (buffer : List ℕ) 
       sought′ = rw (f .size) at sought
 
       -- the run is closed
-      pub closed-now : back < count → Chained c words w buffer (record { closed = true; count = count; back = back }) cubes
-      unfolding storedCubes isClosed backTo
+      pub closed-now : back < count → Chained c words w buffer (record { stopped = true; count = count; back = back }) cubes
+      unfolding storedCubes hasStopped backTo
       closed-now h =
-          let e : run (circuitOf c words) w (roomIn c buffer) ≡ closed count back =
+          let e : run (circuitOf c words) w (roomIn c buffer) ≡ stops count back =
           rw (← (f .has-room), ← add-sub-of-le (t .within)) (run-stays (circuitOf c words) w count (room - count) count back (closes-at c words w buffer g b′ r back sought′ h)) in
           record { closes = rw e; counts = rw e; goes-back = rw e; some = some-cubes; fills = g .stored }
 
@@ -88,8 +88,8 @@ module _ (c : Counts) (words : List ℕ) (w len room : ℕ) (buffer : List ℕ) 
       open-yet h = goes-on c words w buffer g b′ r back sought′ h
 
       -- no room is left
-      pub full-now : count ≤ back → count ≡ room → Chained c words w buffer (record { closed = false; count = count; back = 0 }) cubes
-      unfolding storedCubes isClosed backTo
+      pub full-now : count ≤ back → count ≡ room → Chained c words w buffer (record { stopped = false; count = count; back = 0 }) cubes
+      unfolding storedCubes hasStopped backTo
       full-now h e =
           let room= : count ≡ roomIn c buffer = e ∙ f .has-room in
           let o : run (circuitOf c words) w (roomIn c buffer) ≡ full = rw (← room=) (open-yet h) in

@@ -17,7 +17,7 @@ use Rattle.cubes.specs.Buffer.{cubeBytes, packCube, packCubes}
 use Rattle.cubes.specs.HeldInCode.{differingByte}
 use Rattle.cubes.specs.Call.{roomIn, storedCubes, backTo}
 use Rattle.stored.specs.CubesInCode.{startFields, keptBytes}
-use Rattle.cubes.specs.OutcomesInCode.{isClosed}
+use Rattle.cubes.specs.OutcomesInCode.{hasStopped}
 
 -- the held latches of len bytes, with those added whose value in a and b differs
 unfoldable pub widenedBytes : ℕ → List ℕ → List ℕ → List ℕ → List ℕ
@@ -36,7 +36,7 @@ pub record Advanced (d : Bool) (len : ℕ) (before : Progress) (cubes b : List �
 
 -- a chain that is made in a buffer: what it answers, and the cubes in front of what stood there
 pub record Chained (c : Counts) (words : List ℕ) (w : ℕ) (buffer : List ℕ) (r : Chain) (cubes : List ℕ) : Type 0 where
-  pub closes : r .closed ≡ isClosed (run (circuitOf c words) w (roomIn c buffer))
+  pub closes : r .stopped ≡ hasStopped (run (circuitOf c words) w (roomIn c buffer))
   pub counts : r .count ≡ storedCubes (roomIn c buffer) (run (circuitOf c words) w (roomIn c buffer))
   pub goes-back : r .back ≡ backTo (run (circuitOf c words) w (roomIn c buffer))
   pub some : 1 ≤ r .count

@@ -90,9 +90,9 @@ impl Progress {
     }
 }
 
-// Closed with `count` cubes back to number `back`, or no room for a cube more.
+// Stopped with `count` cubes, closed back to number `back`, or no room for a cube more.
 pub struct Chain {
-    pub closed: bool,
+    pub stopped: bool,
     pub count: usize,
     pub back: usize,
 }
@@ -130,14 +130,14 @@ fn follow(
         let back = stored::search(cubes, len, count, &b);
         if back < count {
             return Chain {
-                closed: true,
+                stopped: true,
                 count,
                 back,
             };
         }
         if count == room {
             return Chain {
-                closed: false,
+                stopped: false,
                 count,
                 back: 0,
             };

@@ -10,10 +10,10 @@ use Rattle.three.specs.Cube.{Cube, merged}
 use Rattle.circuit.specs.declared.Counts.{Counts}
 use Rattle.circuit.specs.Circuit.{Circuit, next, lamps}
 use Rattle.circuit.specs.Table.{circuitOf}
-use Rattle.cubes.specs.Run.{nextCube, lampsIn, cubeAt, Ending, closed, full, run, merge, verdict, settled}
+use Rattle.cubes.specs.Run.{nextCube, lampsIn, cubeAt, Ending, stops, full, run, merge, verdict, settled, mergeFrom}
 use Rattle.cubes.specs.Buffer.{cubeIn, packCubes}
 use Rattle.cubes.specs.Call.{storedCubes, backTo, outcomeNumber}
-use Rattle.cubes.specs.OutcomesInCode.{isClosed}
+use Rattle.cubes.specs.OutcomesInCode.{hasStopped}
 use Rattle.cubes.proofs.Steps.{found, Ran, stays, closes, ran}
 use Rattle.cubes.proofs.Storing.{stored-cube}
 use Rattle.three.proofs.Lists.{length-tabulate}
@@ -21,57 +21,66 @@ use Rattle.cubes.proofs.Wider.{cube-sized}
 
 -- ---- outcomes
 
-pub closed-is : (room : ℕ) (o : Ending) → isClosed o ≡ true → o ≡ closed (storedCubes room o) (backTo o)
-unfolding isClosed storedCubes backTo
-closed-is room (closed n j) e = refl
-closed-is room full e = absurd (false≢true e)
+pub stopped-is : (room : ℕ) (o : Ending) → hasStopped o ≡ true → o ≡ stops (storedCubes room o) (backTo o)
+unfolding hasStopped storedCubes backTo
+stopped-is room (stops n j) e = refl
+stopped-is room full e = absurd (false≢true e)
 
-pub full-is : (o : Ending) → isClosed o ≡ false → (15 ≡ outcomeNumber o) × (0 ≡ backTo o)
-unfolding isClosed outcomeNumber backTo
-full-is (closed n j) e = absurd (true≢false e)
+pub full-is : (o : Ending) → hasStopped o ≡ false → (15 ≡ outcomeNumber o) × (0 ≡ backTo o)
+unfolding hasStopped outcomeNumber backTo
+full-is (stops n j) e = absurd (true≢false e)
 full-is full e = (refl, refl)
 
-pub closed-number : (o : Ending) → isClosed o ≡ true → 0 ≡ outcomeNumber o
-unfolding isClosed outcomeNumber
-closed-number (closed n j) e = refl
-closed-number full e = absurd (false≢true e)
+pub stopped-number : (o : Ending) → hasStopped o ≡ true → 0 ≡ outcomeNumber o
+unfolding hasStopped outcomeNumber
+stopped-number (stops n j) e = refl
+stopped-number full e = absurd (false≢true e)
 
 -- a closed run goes back to one of its cubes, and its cubes have room
 module _ (c : Circuit) (w : ℕ) where
-  ran-within : {room n j : ℕ} → Ran c w room (closed n j) → (j < n) × (n ≤ room)
+  ran-within : {room n j : ℕ} → Ran c w room (stops n j) → (j < n) × (n ≤ room)
   ran-within (stays past) = (ran-within past .0, omega (arith, ran-within past .1))
   ran-within (closes past l) = (found l .0, omega arith)
 
-  pub closed-within : (room : ℕ) → isClosed (run c w room) ≡ true → (backTo (run c w room) < storedCubes room (run c w room)) × (storedCubes room (run c w room) ≤ room)
-  unfolding isClosed storedCubes backTo
-  closed-within room e = go (run c w room) (ran c w room) e
+  pub stopped-within : (room : ℕ) → hasStopped (run c w room) ≡ true → (backTo (run c w room) < storedCubes room (run c w room)) × (storedCubes room (run c w room) ≤ room)
+  unfolding hasStopped storedCubes backTo
+  stopped-within room e = go (run c w room) (ran c w room) e
     where
-      go : (o : Ending) → Ran c w room o → isClosed o ≡ true → (backTo o < storedCubes room o) × (storedCubes room o ≤ room)
-      go (closed n j) r h = ran-within r
+      go : (o : Ending) → Ran c w room o → hasStopped o ≡ true → (backTo o < storedCubes room o) × (storedCubes room o ≤ room)
+      go (stops n j) r h = ran-within r
       go full r h = absurd (false≢true h)
 
 -- ---- verdict and settled record depend on the first n cubes alone
 
-merge-same : (f f′ : ℕ → Cube) (base more : ℕ) → ((k : ℕ) → k ≤ base + more → f k ≡ f′ k) → merge f base more ≡ merge f′ base more
+merge-same : (f f′ : ℕ → Cube) (base more : ℕ) → ((k : ℕ) → base ≤ k → k ≤ base + more → f k ≡ f′ k) → merge f base more ≡ merge f′ base more
 unfolding merge
-merge-same f f′ base zero same = same base (omega arith)
-merge-same f f′ base (suc more) same = ap₂ merged (merge-same f f′ base more (λ k h. same k (omega arith))) (same (base + suc more) (omega arith))
+merge-same f f′ base zero same = same base (omega arith) (omega arith)
+merge-same f f′ base (suc more) same = ap₂ merged (merge-same f f′ base more (λ k l h. same k l (omega arith))) (same (base + suc more) (omega arith) (omega arith))
 
-module _ (f f′ : ℕ → Cube) (n : ℕ) (same : (k : ℕ) → k < n → f k ≡ f′ k) where
-  pub verdict-same : (c : Circuit) → 1 ≤ n → verdict c f n ≡ verdict c f′ n
+mergeFrom-same : (none : Cube) (f f′ : ℕ → Cube) (base count : ℕ) → ((k : ℕ) → base ≤ k → k < base + count → f k ≡ f′ k) → mergeFrom none f base count ≡ mergeFrom none f′ base count
+unfolding mergeFrom
+mergeFrom-same none f f′ base zero same = refl
+mergeFrom-same none f f′ base (suc more) same = merge-same f f′ base more (λ k l h. same k l (omega arith))
+
+module _ (c : Circuit) (f f′ : ℕ → Cube) (n : ℕ) (same : (k : ℕ) → k < n → f k ≡ f′ k) where
+  pub verdict-same : verdict c f n ≡ verdict c f′ n
   unfolding verdict
-  verdict-same c some = merge-same _ _ 0 (n - 1) (λ k h. ap (lampsIn c) (same k (omega arith)))
+  verdict-same = mergeFrom-same _ _ _ 0 n (λ k l h. ap (lampsIn c) (same k (omega arith)))
 
-  pub settled-same : (j : ℕ) → j < n → settled f n j ≡ settled f′ n j
+  pub settled-same : (j : ℕ) → settled c f n j ≡ settled c f′ n j
   unfolding settled
-  settled-same j h = merge-same f f′ j (n - 1 - j) (λ k l. same k (omega arith))
+  settled-same j = mergeFrom-same _ f f′ j (n - j) (λ k l h. same k (omega arith))
 
 -- ---- the cubes in the buffer
 
 -- a field for each lamp, and for each latch
+pub literals-counted : (c : Counts) (words : List ℕ) → length (circuitOf c words .lamps) ≡ c .lamps
+unfolding circuitOf
+literals-counted c words = length-tabulate (c .lamps) _
+
 pub lamps-counted : (c : Counts) (words : List ℕ) (v : Cube) → length (lampsIn (circuitOf c words) v) ≡ c .lamps
-unfolding lampsIn lamps circuitOf
-lamps-counted c words v = length-map (circuitOf c words .lamps) _ ∙ length-tabulate (c .lamps) _
+unfolding lampsIn lamps
+lamps-counted c words v = length-map (circuitOf c words .lamps) _ ∙ literals-counted c words
 
 pub latches-counted : (c : Counts) (words : List ℕ) → length (circuitOf c words .latches) ≡ c .latches
 unfolding circuitOf

@@ -14,7 +14,7 @@ use Rattle.three.proofs.Counting.{known-fields-le}
 use Rattle.three.proofs.Merge.{subsumes-every}
 use Rattle.three.proofs.Subsuming.{each-subsumes, known-fewer}
 use Rattle.circuit.specs.Circuit.{Circuit}
-use Rattle.cubes.specs.Run.{reached, store, stage, cubeAt, nowhere, Ending, closed, full, run}
+use Rattle.cubes.specs.Run.{reached, store, stage, cubeAt, nowhere, Ending, stops, full, run}
 use Rattle.cubes.specs.Promise.{mostCubes}
 use Rattle.cubes.proofs.Steps.{last-fails, Looked, Ran, begun, stays, closes, goes-on, ran}
 use Rattle.cubes.proofs.Wider.{reached-sized, cube-sized}
@@ -67,7 +67,7 @@ module _ (c : Circuit) (w : ℕ) where
         go zero e (goes-on {k = k} past l) = absurd (some-latch k l e)
         go (suc latches) e r = omega (arith, still-known r)
 
-    few-cubes : {room n j : ℕ} → Ran c w room (closed n j) → n ≤ mostCubes w (length (c .latches))
+    few-cubes : {room n j : ℕ} → Ran c w room (stops n j) → n ≤ mostCubes w (length (c .latches))
     few-cubes (stays past) = few-cubes past
     few-cubes (closes past l) = still-open past
 
@@ -75,14 +75,14 @@ module _ (c : Circuit) (w : ℕ) where
 pub record ClosesWithin (bound : ℕ) (outcome : Ending) : Type 0 where
   pub n : ℕ
   pub j : ℕ
-  pub is-closed : outcome ≡ closed n j
+  pub is-closed : outcome ≡ stops n j
   pub few : n ≤ bound
 
 pub run-closes : (c : Circuit) (w room : ℕ) → 1 ≤ w → mostCubes w (length (c .latches)) ≤ room → ClosesWithin (mostCubes w (length (c .latches))) (run c w room)
 run-closes c w room pos enough = go (run c w room) (ran c w room)
   where
     go : (o : Ending) → Ran c w room o → ClosesWithin (mostCubes w (length (c .latches))) o
-    go (closed n j) r = record { n = n; j = j; is-closed = refl; few = few-cubes c w pos r }
+    go (stops n j) r = record { n = n; j = j; is-closed = refl; few = few-cubes c w pos r }
     go full r = absurd (omega (arith, still-open c w pos r))
 
 -- document 01's bound is never less

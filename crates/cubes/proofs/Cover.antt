@@ -9,14 +9,14 @@ use native.Mathlib.Omega.{arith}
 use lib.ListN.{length, getD, replicate, length-map}
 use Rattle.three.specs.Lists.{tabulate, empty, also}
 use Rattle.three.specs.Value.{unknown, known, boolean}
-use Rattle.three.specs.Cube.{Cube, Holds, any, off, on, _∋_}
+use Rattle.three.specs.Cube.{Cube, subsumes, Holds, any, off, on, _∋_}
 use Rattle.three.proofs.Lists.{each-getD}
 use Rattle.circuit.specs.Circuit.{Circuit, next, lamps}
 use Rattle.circuit.proofs.Sound.{next-sound, lamps-sound}
 use Rattle.cubes.specs.Run.{switchesUnknown, nextCube, lampsIn, start, verdict, settled}
-use Rattle.cubes.specs.OutcomesInCode.{Inside, place}
+use Rattle.cubes.specs.OutcomesInCode.{place}
 use Rattle.cubes.specs.Execution.{settings, stateAfter, lampsAfter}
-use Rattle.cubes.proofs.Wider.{merge-widens}
+use Rattle.cubes.proofs.Wider.{subsumes-widens, mergeFrom-widens}
 use Rattle.cubes.proofs.Places.{place-early, place-late, place-below, place-last, place-next}
 
 -- ---- one tick with all switches X
@@ -52,12 +52,10 @@ known-at within i v e = known-alone v (rw e at (each-getD within {e = false} any
 
 -- ---- covers
 
--- n cubes in any order: cube number `origin` holds the start, and cube number `follow k` the next state of cube k
+-- n cubes in any order: cube number `origin` subsumes the start, and cube number `follow k` the next state of cube k
 pub record Cover (c : Circuit) (cubes : ℕ → Cube) (n origin : ℕ) (follow : ℕ → ℕ) : Type 0 where
-  pub starts : Inside (start c) (cubes origin)
-  pub starts-below : origin < n
-  pub follows : (k : ℕ) → k < n → Inside (nextCube c (cubes k)) (cubes (follow k))
-  pub follows-below : (k : ℕ) → k < n → follow k < n
+  pub starts : (origin < n) × (subsumes (cubes origin) (start c) ≡ true)
+  pub follows : (k : ℕ) → k < n → (follow k < n) × (subsumes (cubes (follow k)) (nextCube c (cubes k)) ≡ true)
 
 -- the number of the cube for tick t: the origin, followed t times
 unfoldable pub visited : ℕ → (ℕ → ℕ) → ℕ → ℕ
@@ -67,19 +65,19 @@ visited origin follow (suc t) = follow (visited origin follow t)
 module _ {c : Circuit} {cubes : ℕ → Cube} {n origin : ℕ} {follow : ℕ → ℕ} (cover : Cover c cubes n origin follow) where
   pub visited-below : (t : ℕ) → visited origin follow t < n
   unfolding visited
-  visited-below zero = cover .starts-below
-  visited-below (suc t) = cover .follows-below _ (visited-below t)
+  visited-below zero = cover .starts .0
+  visited-below (suc t) = cover .follows _ (visited-below t) .0
 
   module _ (switches : ℕ → ℕ → Bool) {first : List Bool} (from : start c ∋ first) where
     pub visited-covers : (t : ℕ) → cubes (visited origin follow t) ∋ stateAfter c switches first t
     unfolding stateAfter visited
-    visited-covers zero = cover .starts first from
-    visited-covers (suc t) = cover .follows _ (visited-below t) _ (next-within c switches t (visited-covers t))
+    visited-covers zero = subsumes-widens _ (cover .starts .1) from
+    visited-covers (suc t) = subsumes-widens _ (cover .follows _ (visited-below t) .1) (next-within c switches t (visited-covers t))
 
     verdict-covers : (t : ℕ) → verdict c cubes n ∋ lampsAfter c switches first t
     unfolding verdict lampsAfter
     verdict-covers t =
-        merge-widens _ _ (λ k. lamps-sized c (cubes k)) 0 (n - 1) (visited origin follow t) (omega arith)
+        mergeFrom-widens _ _ _ (λ k. lamps-sized c (cubes k)) 0 n (visited origin follow t) (omega arith)
         (omega (arith, visited-below t)) (lamps-within c switches t (visited-covers t))
 
     -- a lamp of known verdict has that value at every tick
@@ -88,12 +86,12 @@ module _ {c : Circuit} {cubes : ℕ → Cube} {n origin : ℕ} {follow : ℕ →
 
 -- ---- closed chains
 
--- n cubes one after the other: each next state lies in the following cube, that of the last in cube j
+-- n cubes one after the other: each next state is subsumed by the following cube, that of the last by cube j
 pub record Chain (c : Circuit) (cubes : ℕ → Cube) (n j : ℕ) : Type 0 where
   pub sized : (k : ℕ) → length (cubes k) ≡ length (c .latches)
-  pub starts : Inside (start c) (cubes 0)
-  pub follows : (k : ℕ) → suc k < n → Inside (nextCube c (cubes k)) (cubes (suc k))
-  pub returns : (k : ℕ) → suc k ≡ n → Inside (nextCube c (cubes k)) (cubes j)
+  pub starts : subsumes (cubes 0) (start c) ≡ true
+  pub follows : (k : ℕ) → suc k < n → subsumes (cubes (suc k)) (nextCube c (cubes k)) ≡ true
+  pub returns : (k : ℕ) → suc k ≡ n → subsumes (cubes j) (nextCube c (cubes k)) ≡ true
   pub below : j < n
 
 -- the cube after cube k is the one for tick k + 1
@@ -108,13 +106,11 @@ visited-place n j (suc t) below = ap (onward n j) (visited-place n j t below) �
 module _ {c : Circuit} {cubes : ℕ → Cube} {n j : ℕ} (chain : Chain c cubes n j) where
   pub chain-cover : Cover c cubes n 0 (onward n j)
   chain-cover = record {
-    starts = chain .starts;
-    starts-below = omega arith;
-    follows = λ k h. go k (decLt (suc k) n) h;
-    follows-below = λ k h. place-below n j (suc k) (chain .below);
+    starts = (omega (arith, chain .below), chain .starts);
+    follows = λ k h. (place-below n j (suc k) (chain .below), go k (decLt (suc k) n) h);
   }
     where
-      go : (k : ℕ) → Dec (suc k < n) → k < n → Inside (nextCube c (cubes k)) (cubes (onward n j k))
+      go : (k : ℕ) → Dec (suc k < n) → k < n → subsumes (cubes (onward n j k)) (nextCube c (cubes k)) ≡ true
       go k (yes inner) h = rw (place-early n j (suc k) (chain .below) inner) (chain .follows k inner)
       go k (no edge) h =
           let last : suc k ≡ n = omega arith in
@@ -124,12 +120,12 @@ module _ {c : Circuit} {cubes : ℕ → Cube} {n j : ℕ} (chain : Chain c cubes
     pub place-covers : (t : ℕ) → cubes (place n j t) ∋ stateAfter c switches first t
     place-covers t = rw (visited-place n j t (chain .below)) at (visited-covers chain-cover switches from t)
 
-    settled-covers : (t : ℕ) → j ≤ t → settled cubes n j ∋ stateAfter c switches first t
+    settled-covers : (t : ℕ) → j ≤ t → settled c cubes n j ∋ stateAfter c switches first t
     unfolding settled
     settled-covers t late =
-        merge-widens cubes _ (chain .sized) j (n - 1 - j) (place n j t) (omega (arith, place-late n j t late))
+        mergeFrom-widens _ cubes _ (chain .sized) j (n - j) (place n j t) (omega (arith, place-late n j t late))
         (omega (arith, place-below n j t (chain .below))) (place-covers t)
 
     -- a settled latch has its value at every tick from j on
-    pub latch-known : (i : ℕ) (v : Bool) → getD (settled cubes n j) i unknown ≡ known v → (t : ℕ) → j ≤ t → getD (stateAfter c switches first t) i false ≡ v
+    pub latch-known : (i : ℕ) (v : Bool) → getD (settled c cubes n j) i unknown ≡ known v → (t : ℕ) → j ≤ t → getD (stateAfter c switches first t) i false ≡ v
     latch-known i v e t late = known-at (settled-covers t late) i v e

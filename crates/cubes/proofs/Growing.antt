@@ -10,10 +10,10 @@ use native.Mathlib.Omega.{arith}
 use lib.ListN.{length, length-map}
 use Rattle.three.specs.Lists.{adjust, Each, empty, also}
 use Rattle.three.specs.Value.{Three, code}
-use Rattle.three.specs.Cube.{Cube, alike, allows, blank}
+use Rattle.three.specs.Cube.{Cube, alike, allows, subsumes, blank}
 use Rattle.three.proofs.Lists.{length-adjust, each-self, each-adjust}
 use Rattle.three.proofs.Fields.{of-two, allows-self}
-use Rattle.three.proofs.Subsuming.{Wider}
+use Rattle.three.proofs.Subsuming.{Wider, each-subsumes, subsumes-trans}
 use Rattle.circuit.specs.Circuit.{Circuit}
 use Rattle.circuit.proofs.Narrow.{next-wider}
 use Rattle.cubes.specs.Run.{hold, differing, due, switchesUnknown, nextCube, Stage, reached, widened, store, stage, cubeAt}
@@ -58,14 +58,9 @@ hold-wider ss empty = empty
 hold-wider empty (also e es) = also e es
 hold-wider (also s ss) (also {a = x} {b = y} e es) = also (blank-wider s x y e) (hold-wider ss es)
 
-blank-contains : (a b : Three) (now : Bool) → Wider a b → Wider (blank a now) b
-unfolding blank allows alike code
-blank-contains a b true e = refl
-blank-contains a b false e = e
-
 pub hold-contains : (now : List Bool) (b : Cube) → Each Wider (hold now b) b
-unfolding hold
-hold-contains now b = each-adjust blank blank-contains (each-self allows-self b) now
+unfolding hold blank
+hold-contains now b = each-adjust blank (λ x y d. blank-wider (free {now = d}) x y) (each-self allows-self b) now
 
 -- b, with the latches held whose value in a and b differs, contains a
 differing-wider : (h : Bool) (x y : Three) → Wider (blank y (h || not (alike x y))) x
@@ -92,6 +87,14 @@ module _ (c : Circuit) (w : ℕ) where
   -- cube k + 1 contains cube k
   abbrev pub Grows : ℕ → Type 0
   Grows k = Each Wider (cubeAt c w (suc k)) (cubeAt c w k)
+
+  -- b contains the next state of cube k, and the cube stored next contains b
+  pub next-reached : (k : ℕ) → subsumes (reached c (stage c w k)) (nextCube c (cubeAt c w k)) ≡ true
+  unfolding reached cubeAt
+  next-reached k = each-subsumes (hold-contains (stage c w k .held) _)
+
+  pub next-stored : (k : ℕ) → subsumes (cubeAt c w (suc k)) (nextCube c (cubeAt c w k)) ≡ true
+  next-stored k = subsumes-trans (cubeAt c w (suc k)) (reached c (stage c w k)) _ (unfold cubeAt stage store in each-subsumes (hold-contains _ (reached c (stage c w k)))) (next-reached k)
 
   pub held-sized : (k : ℕ) → length (stage c w k .held) ≡ length (c .latches)
   unfolding stage store

@@ -10,7 +10,7 @@ use Rattle.three.specs.Cube.{Cube, merged}
 use Rattle.three.specs.Record.{bytesFor, pack, unpack, IsRecord}
 use Rattle.three.proofs.Pack.{length-pack, unpack-over}
 use Rattle.three.proofs.Soundness.{record-over}
-use Rattle.cubes.specs.Run.{merge}
+use Rattle.cubes.specs.Run.{merge, mergeFrom}
 use Rattle.cubes.proofs.Wider.{merge-sized}
 
 -- what is written over a buffer hides what was written there before
@@ -62,7 +62,8 @@ module _ (size : ℕ) (f : ℕ → Cube) (sized : (k : ℕ) → length (f k) ≡
           (omega (arith, pack-sized (merge f base (m .more)) (merge-sized f size sized base (m .more)), pack-sized (merge f base (suc (m .more))) (merge-sized f size sized base (suc (m .more)))));
     }
 
-    pub merged-last : (e : List ℕ) (k n : ℕ) → Merged e k → k ≡ n → e ≡ over (pack (merge f base (n - 1 - base))) d
-    merged-last e k n m h =
-        let last : m .more ≡ n - 1 - base = omega (arith, m .place) in
-        m .same ∙ ap (λ (j : ℕ). over (pack (merge f base j)) d) last
+    pub merged-last : (none : Cube) (e : List ℕ) (k n : ℕ) → Merged e k → k ≡ n → e ≡ over (pack (mergeFrom none f base (n - base))) d
+    unfolding mergeFrom
+    merged-last none e k n m h =
+        let all : suc (m .more) ≡ n - base = omega (arith, m .place) in
+        m .same ∙ ap (λ (count : ℕ). over (pack (mergeFrom none f base count)) d) all

@@ -9,11 +9,14 @@ use Rattle.three.specs.Value.{unknown, known}
 use Rattle.three.specs.Cube.{Holds, off, on, _∋_}
 use Rattle.three.proofs.Lists.{each-map}
 use Rattle.circuit.specs.Circuit.{Circuit, Latch}
-use Rattle.cubes.specs.Run.{startField, start, stage, cubeAt, closed, run, verdict, settled}
+use Rattle.cubes.specs.Run.{startField, start, stage, cubeAt, stops, run, verdict, settled}
 use Rattle.cubes.specs.Execution.{stateAfter, lampsAfter, resetBit, resets}
 use Rattle.cubes.specs.OutcomesInCode.{place}
 use Rattle.cubes.proofs.Steps.{found, Ran, stays, closes, ran}
-use Rattle.cubes.proofs.Wider.{subsumes-widens, cube-sized, next-reached, reached-stored}
+use Rattle.cubes.proofs.Wider.{cube-sized}
+use Rattle.cubes.proofs.Growing.{next-reached, next-stored}
+use Rattle.three.proofs.Merge.{subsumes-self}
+use Rattle.three.proofs.Subsuming.{subsumes-trans}
 use Rattle.cubes.proofs.Places.{place-early, place-late}
 use Rattle.cubes.proofs.Cover.{Chain, chain-cover, place-covers, lamp-known, latch-known}
 
@@ -30,22 +33,22 @@ resets-start c = each-map _ _ (λ (l : Latch). reset-holds (l .reset)) (c .latch
 
 -- ---- a closed run is a closed chain
 
-chain-of : (c : Circuit) (w : ℕ) {room n j : ℕ} → Ran c w room (closed n j) → Chain c (cubeAt c w) n j
+chain-of : (c : Circuit) (w : ℕ) {room n j : ℕ} → Ran c w room (stops n j) → Chain c (cubeAt c w) n j
 unfolding cubeAt stage
 chain-of c w (stays past) = chain-of c w past
 chain-of c w (closes {k = k} past l) =
     let there = found l in
     record {
       sized = cube-sized c w;
-      starts = λ s h. h;
-      follows = λ i inner s h. reached-stored c w i s (next-reached c w i s h);
-      returns = λ i last s h. let same : i ≡ k = omega arith in subsumes-widens _ (there .1) (next-reached c w k s (rw same at h));
+      starts = subsumes-self (start c);
+      follows = λ i inner. next-stored c w i;
+      returns = λ i last. let same : i ≡ k = omega arith in rw same (subsumes-trans _ _ _ (there .1) (next-reached c w k));
       below = there .0;
     }
 
 -- ---- the promises, for any switches and any first state in cube 0
 
-module _ (c : Circuit) (w room n j : ℕ) (run-closed : run c w room ≡ closed n j) where
+module _ (c : Circuit) (w room n j : ℕ) (run-closed : run c w room ≡ stops n j) where
   run-chain : Chain c (cubeAt c w) n j
   run-chain = chain-of c w (rw run-closed at (ran c w room))
 
@@ -66,5 +69,5 @@ module _ (c : Circuit) (w room n j : ℕ) (run-closed : run c w room ≡ closed 
     lamp-judged = lamp-known (chain-cover run-chain) switches from
 
     -- a settled latch has its value at every tick from j on
-    pub latch-settled : (i : ℕ) (v : Bool) → getD (settled (cubeAt c w) n j) i unknown ≡ known v → (t : ℕ) → j ≤ t → getD (stateAfter c switches first t) i false ≡ v
+    pub latch-settled : (i : ℕ) (v : Bool) → getD (settled c (cubeAt c w) n j) i unknown ≡ known v → (t : ℕ) → j ≤ t → getD (stateAfter c switches first t) i false ≡ v
     latch-settled = latch-known run-chain switches from

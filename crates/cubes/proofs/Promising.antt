@@ -5,7 +5,7 @@ use mathlib.Core.List.{List}
 use Prim.Native.Nat.{ℕ, zero, suc, _+_, _*_, _-_, _%_, _<_, _≤_}
 use native.Mathlib.Nat.{mod-lt}
 use native.Mathlib.Omega.{arith}
-use lib.ListN.{length}
+use lib.ListN.{length, length-replicate}
 use Rattle.three.specs.Lists.{over}
 use Rattle.three.specs.Cube.{knownFields}
 use Rattle.three.specs.Record.{unpack}
@@ -15,50 +15,54 @@ use Rattle.circuit.specs.Refusal.{leftBy}
 use Rattle.circuit.specs.Table.{circuitOf}
 use Rattle.circuit.proofs.Refusals.{accepted-new}
 use Rattle.cubes.specs.declared.RunAnswer.{RunAnswer}
-use Rattle.cubes.specs.Run.{cubeAt, Ending, closed, full, verdict, settled}
+use Rattle.cubes.specs.Run.{cubeAt, Ending, stops, full, verdict, settled}
 use Rattle.cubes.specs.Buffer.{cubeIn, packCubes}
 use Rattle.cubes.specs.Call.{roomIn, storedCubes, outcomeNumber, RunGiven, refusedBy, circuitIn, outcomeIn, cubesIn, backIn, verdictFields, settledFields, Runs}
-use Rattle.cubes.specs.OutcomesInCode.{isClosed}
+use Rattle.cubes.specs.OutcomesInCode.{hasStopped}
 use Rattle.cubes.specs.Promise.{mostCubes, Covered, Promises}
 use Rattle.cubes.proofs.Promise.{resets-start, covered-early, covered-late, lamp-judged, latch-settled}
 use Rattle.cubes.proofs.Closes.{run-closes, most-within}
-use Rattle.cubes.proofs.Buffered.{cubes-sized, lamps-counted, closed-is, closed-within, cube-in, latches-counted}
-use Rattle.cubes.proofs.Wider.{merge-sized}
+use Rattle.cubes.proofs.Buffered.{cubes-sized, lamps-counted, cube-in, latches-counted, literals-counted, stopped-is, stopped-within}
+use Rattle.cubes.proofs.Wider.{mergeFrom-sized}
+use Rattle.circuit.specs.Circuit.{Circuit}
 
 -- ---- number 0 says: not refused, and closed
 
-zero-says : (k : ℕ) (o : Ending) → 0 ≡ leftBy k (outcomeNumber o) k → (k ≡ 0) × (isClosed o ≡ true)
-unfolding leftBy outcomeNumber isClosed
-zero-says zero (closed n j) e = (refl, refl)
+zero-says : (k : ℕ) (o : Ending) → 0 ≡ leftBy k (outcomeNumber o) k → (k ≡ 0) × (hasStopped o ≡ true)
+unfolding leftBy outcomeNumber hasStopped
+zero-says zero (stops n j) e = (refl, refl)
 zero-says zero full e = absurd (omega arith)
 zero-says (suc k) o e = absurd (omega arith)
 
-closed-says : (room : ℕ) (o : Ending) {n j : ℕ} → o ≡ closed n j → (outcomeNumber o ≡ 0) × (storedCubes room o ≡ n)
+closed-says : (room : ℕ) (o : Ending) {n j : ℕ} → o ≡ stops n j → (outcomeNumber o ≡ 0) × (storedCubes room o ≡ n)
 unfolding outcomeNumber storedCubes
 closed-says room o e = (rw e, rw e)
 
 -- and any other number, where nothing is refused before: no room
 number-says : (o : Ending) {k : ℕ} → k ≡ outcomeNumber o → (k ≡ 0 → ⊥) → (k ≡ 15) × (o ≡ full)
 unfolding outcomeNumber
-number-says (closed n j) e h = absurd (h e)
+number-says (stops n j) e h = absurd (h e)
 number-says full e h = (e, refl)
 
 -- ---- the fields of verdict and settled record
 
 module _ (c : Counts) (words : List ℕ) (w n j : ℕ) where
-  verdict-sized : length (verdict (circuitOf c words) (cubeAt (circuitOf c words) w) n) ≡ c .lamps
-  unfolding verdict
-  verdict-sized = merge-sized _ (c .lamps) (λ k. lamps-counted c words _) 0 (n - 1)
+  abbrev circuit : Circuit
+  circuit = circuitOf c words
 
-  settled-sized : length (settled (cubeAt (circuitOf c words) w) n j) ≡ c .latches
+  verdict-sized : length (verdict circuit (cubeAt circuit w) n) ≡ c .lamps
+  unfolding verdict
+  verdict-sized = mergeFrom-sized _ _ (c .lamps) (λ k. lamps-counted c words _) 0 (length-replicate (length (circuit .lamps)) _ ∙ literals-counted c words) n
+
+  settled-sized : length (settled circuit (cubeAt circuit w) n j) ≡ c .latches
   unfolding settled
-  settled-sized = merge-sized _ (c .latches) (cubes-sized c words w) j (n - 1 - j)
+  settled-sized = mergeFrom-sized _ _ (c .latches) (cubes-sized c words w) j (length-replicate (length (circuit .latches)) _ ∙ latches-counted c words) (n - j)
 
 -- ---- the promises
 
 module _ (g : RunGiven) (r : RunAnswer) (cubes verdict′ settled′ : List ℕ) (runs : Runs g r cubes verdict′ settled′) where
   module _ (done : r .number ≡ 0) where
-    says : (refusedBy g ≡ 0) × (isClosed (outcomeIn g) ≡ true)
+    says : (refusedBy g ≡ 0) × (hasStopped (outcomeIn g) ≡ true)
     says = zero-says (refusedBy g) (outcomeIn g) (sym done ∙ runs .answers)
 
     taken : {A : Type 0} (new old : A) → leftBy (refusedBy g) new old ≡ new
@@ -73,13 +77,13 @@ module _ (g : RunGiven) (r : RunAnswer) (cubes verdict′ settled′ : List ℕ)
     j-is : r .back ≡ backIn g
     j-is = runs .goes-back ∙ taken _ _
 
-    pub outcome-is : outcomeIn g ≡ closed (r .cubes) (r .back)
+    pub outcome-is : outcomeIn g ≡ stops (r .cubes) (r .back)
     unfolding cubesIn backIn
-    outcome-is = closed-is (roomIn (g .counts) (g .cubes)) (outcomeIn g) (says .1) ∙ ap₂ closed (sym n-is) (sym j-is)
+    outcome-is = stopped-is (roomIn (g .counts) (g .cubes)) (outcomeIn g) (says .1) ∙ ap₂ stops (sym n-is) (sym j-is)
 
     below : r .back < r .cubes
     unfolding cubesIn backIn outcomeIn
-    below = rw (n-is, j-is) (closed-within (circuitIn g) (g .w) (roomIn (g .counts) (g .cubes)) (says .1) .0)
+    below = rw (n-is, j-is) (stopped-within (circuitIn g) (g .w) (roomIn (g .counts) (g .cubes)) (says .1) .0)
 
     cube-is : (k : ℕ) → k < r .cubes → cubeAt (circuitIn g) (g .w) k ≡ cubeIn (g .counts .latches) cubes k
     unfolding circuitIn
@@ -94,16 +98,16 @@ module _ (g : RunGiven) (r : RunAnswer) (cubes verdict′ settled′ : List ℕ)
         ∙ unpack-over (g .counts .lamps) (verdictFields g) (g .verdict) (verdict-sized (g .counts) (g .table) (g .w) (cubesIn g) 0)
         ∙ ap (verdict (circuitIn g) (cubeAt (circuitIn g) (g .w))) (sym n-is)
 
-    pub settled-is : unpack (g .counts .latches) settled′ ≡ settled (cubeAt (circuitIn g) (g .w)) (r .cubes) (r .back)
+    pub settled-is : unpack (g .counts .latches) settled′ ≡ settled (circuitIn g) (cubeAt (circuitIn g) (g .w)) (r .cubes) (r .back)
     unfolding settledFields circuitIn
     settled-is =
         ap (unpack (g .counts .latches)) (runs .fills-settled ∙ written _ _)
         ∙ unpack-over (g .counts .latches) (settledFields g) (g .settled) (settled-sized (g .counts) (g .table) (g .w) (cubesIn g) (backIn g))
-        ∙ ap₂ (settled (cubeAt (circuitIn g) (g .w))) (sym n-is) (sym j-is)
+        ∙ ap₂ (settled (circuitIn g) (cubeAt (circuitIn g) (g .w))) (sym n-is) (sym j-is)
 
-    pub count-is : r .settled ≡ knownFields (settled (cubeAt (circuitIn g) (g .w)) (r .cubes) (r .back))
+    pub count-is : r .settled ≡ knownFields (settled (circuitIn g) (cubeAt (circuitIn g) (g .w)) (r .cubes) (r .back))
     unfolding settledFields
-    count-is = runs .settles ∙ written _ _ ∙ ap knownFields (ap₂ (settled (cubeAt (circuitIn g) (g .w))) (sym n-is) (sym j-is))
+    count-is = runs .settles ∙ written _ _ ∙ ap knownFields (ap₂ (settled (circuitIn g) (cubeAt (circuitIn g) (g .w))) (sym n-is) (sym j-is))
 
     run-covers : (switches : ℕ → ℕ → Bool) → Covered g r cubes verdict′ settled′ switches
     unfolding outcomeIn

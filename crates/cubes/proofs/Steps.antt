@@ -7,7 +7,7 @@ use native.Mathlib.Decide.{decLt}
 use native.Mathlib.Omega.{arith}
 use Rattle.three.specs.Cube.{Cube, subsumes}
 use Rattle.circuit.specs.Circuit.{Circuit}
-use Rattle.cubes.specs.Run.{reached, stage, cubeAt, Found, at, nowhere, search, Ending, closed, full, back, run}
+use Rattle.cubes.specs.Run.{reached, stage, cubeAt, Found, at, nowhere, search, Ending, stops, full, back, run, stepped}
 
 module _ (cubes : ℕ → Cube) (b : Cube) where
   -- a search through the first n cubes, and its result
@@ -62,35 +62,35 @@ module _ (c : Circuit) (w : ℕ) where
   -- a run with so much room, and its outcome
   pub data Ran : ℕ → Ending → Type 0 where
     begun : Ran 0 full
-    stays : {k n j : ℕ} → Ran k (closed n j) → Ran (suc k) (closed n j)
-    closes : {k j : ℕ} → Ran k full → Looked k (at j) → Ran (suc k) (closed (suc k) j)
+    stays : {k n j : ℕ} → Ran k (stops n j) → Ran (suc k) (stops n j)
+    closes : {k j : ℕ} → Ran k full → Looked k (at j) → Ran (suc k) (stops (suc k) j)
     goes-on : {k : ℕ} → Ran k full → Looked k nowhere → Ran (suc k) full
 
   pub ran : (room : ℕ) → Ran room (run c w room)
-  unfolding run
+  unfolding run stepped
   ran zero = begun
   ran (suc k) = go (run c w k) (back c w k) (ran k) (looked k)
     where
-      go : (o : Ending) (f : Found) → Ran k o → Looked k f
-          → Ran (suc k) (elim o [ closed n j ↦ closed n j | full ↦ elim f [ at j ↦ closed (suc k) j | nowhere ↦ full ] ])
-      go (closed n j) f past l = stays past
+      go : (o : Ending) (f : Found) → Ran k o → Looked k f → Ran (suc k) (stepped (suc k) o f)
+      go (stops n j) f past l = stays past
       go full (at j) past l = closes past l
       go full nowhere past l = goes-on past l
 
   -- one step of the run
-  run-step : (k : ℕ) {f : Found} → run c w k ≡ full → back c w k ≡ f → run c w (suc k) ≡ elim f [ at j ↦ closed (suc k) j | nowhere ↦ full ]
+  run-step : (k : ℕ) {f : Found} → run c w k ≡ full → back c w k ≡ f → run c w (suc k) ≡ stepped (suc k) full f
   unfolding run
-  run-step k e g = ap₂ {C = Ending} (λ (o : Ending) (f : Found). elim o [ closed n j ↦ closed n j | full ↦ elim f [ at j ↦ closed (suc k) j | nowhere ↦ full ] ]) e g
+  run-step k e g = ap₂ (stepped (suc k)) e g
 
-  pub run-closes-now : (k j : ℕ) → run c w k ≡ full → back c w k ≡ at j → run c w (suc k) ≡ closed (suc k) j
-  run-closes-now k j e g = run-step k e g
+  pub run-stops-now : (k j : ℕ) → run c w k ≡ full → back c w k ≡ at j → run c w (suc k) ≡ stops (suc k) j
+  unfolding stepped
+  run-stops-now k j e g = run-step k e g
 
   pub run-goes-on : (k : ℕ) → run c w k ≡ full → back c w k ≡ nowhere → run c w (suc k) ≡ full
+  unfolding stepped
   run-goes-on k e g = run-step k e g
 
-  -- a run that is closed stays so with more room
-  pub run-stays : (k more n j : ℕ) → run c w k ≡ closed n j → run c w (k + more) ≡ closed n j
-  unfolding run
+  -- a run that stops stays so with more room
+  pub run-stays : (k more n j : ℕ) → run c w k ≡ stops n j → run c w (k + more) ≡ stops n j
+  unfolding run stepped
   run-stays k zero n j e = rw add-zero e
-  run-stays k (suc more) n j e =
-      rw add-suc (ap {B = Ending} (λ (o : Ending). elim o [ closed n j ↦ closed n j | full ↦ elim (back c w (k + more)) [ at j ↦ closed (suc (k + more)) j | nowhere ↦ full ] ]) (run-stays k more n j e))
+  run-stays k (suc more) n j e = rw add-suc (ap (λ (o : Ending). stepped (suc (k + more)) o (back c w (k + more))) (run-stays k more n j e))

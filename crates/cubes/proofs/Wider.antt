@@ -1,30 +1,18 @@
--- A wider cube is as long and loses no state: holding, subsuming and merging only turn known fields into X. Assumes nothing.
+-- A cube that subsumes another loses no state; the merge of cubes is as long as they are, and loses none of theirs. Assumes nothing.
 use mathlib.Core.Path.{_≡_, sym, _∙_}
 use mathlib.Core.Bool.{Bool, true, false, false≢true}
 use mathlib.Core.List.{List, [], _∷_}
-use Prim.Native.Nat.{ℕ, zero, suc, _+_, _≤_}
+use Prim.Native.Nat.{ℕ, zero, suc, _+_, _<_, _≤_}
 use native.Mathlib.Decide.{decLe}
 use native.Mathlib.Omega.{arith}
 use lib.ListN.{length, length-map}
-use Rattle.three.specs.Lists.{adjust, empty, also}
+use Rattle.three.specs.Lists.{empty, also}
 use Rattle.three.specs.Value.{Three, unknown, low, high, code}
-use Rattle.three.specs.Cube.{Cube, alike, allows, subsumes, blank, agree, merged, Holds, any, off, on, _∋_}
-use Rattle.three.proofs.Lists.{and-parts, length-adjust, each-adjust}
-use Rattle.three.proofs.Merge.{length-merged}
+use Rattle.three.specs.Cube.{Cube, alike, allows, subsumes, Holds, any, off, on, _∋_}
+use Rattle.three.proofs.Lists.{and-parts, length-adjust}
+use Rattle.three.proofs.Merge.{length-merged, merged-covers-left, merged-covers-right}
 use Rattle.circuit.specs.Circuit.{Circuit, next}
-use Rattle.cubes.specs.Run.{hold, nextCube, start, reached, Stage, store, stage, cubeAt, merge}
-use Rattle.cubes.specs.OutcomesInCode.{Inside}
-
--- ---- held latches
-
-blank-holds : {a : Three} {s : Bool} (x : Bool) → Holds a s → Holds (blank a x) s
-unfolding blank
-blank-holds true h = any
-blank-holds false h = h
-
-hold-widens : (held : List Bool) {b : Cube} {s : List Bool} → b ∋ s → hold held b ∋ s
-unfolding hold
-hold-widens held h = each-adjust blank (λ a s x. blank-holds x) h held
+use Rattle.cubes.specs.Run.{hold, nextCube, start, reached, Stage, store, stage, cubeAt, merge, mergeFrom}
 
 -- ---- subsuming cubes
 
@@ -49,29 +37,6 @@ subsumes-widens (x ∷ a) e (also {a = y} {xs = b} h hs) =
 
 -- ---- merged cubes
 
-agree-holds : (a : Three) {b : Three} {s : Bool} → Holds b s → Holds (agree a b) s
-unfolding agree alike blank code
-agree-holds unknown any = any
-agree-holds low any = any
-agree-holds high any = any
-agree-holds unknown off = any
-agree-holds low off = off
-agree-holds high off = any
-agree-holds unknown on = any
-agree-holds low on = any
-agree-holds high on = on
-
-merged-left : {a : Cube} (b : Cube) {s : List Bool} → a ∋ s → merged a b ∋ s
-unfolding merged agree
-merged-left b h = each-adjust agree (λ a s b. blank-holds _) h b
-
-merged-right : (a : Cube) {b : Cube} {s : List Bool} → length a ≡ length b → b ∋ s → merged a b ∋ s
-unfolding merged adjust
-merged-right [] e empty = empty
-merged-right (x ∷ a) e empty = absurd (omega arith)
-merged-right [] e (also h hs) = absurd (omega arith)
-merged-right (x ∷ a) e (also h hs) = also (agree-holds x h) (merged-right a (omega arith) hs)
-
 module _ (cubes : ℕ → Cube) (size : ℕ) (sized : (k : ℕ) → length (cubes k) ≡ size) (k : ℕ) where
   pub merge-sized : (more : ℕ) → length (merge cubes k more) ≡ size
   unfolding merge
@@ -85,8 +50,19 @@ module _ (cubes : ℕ → Cube) (size : ℕ) (sized : (k : ℕ) → length (cube
   merge-widens (suc more) i l u {s} h = go (decLe i (k + more)) (λ (u : i ≤ k + more). merge-widens more i l u h)
     where
       go : Dec (i ≤ k + more) → (i ≤ k + more → merge cubes k more ∋ s) → merge cubes k (suc more) ∋ s
-      go (yes early) rest = merged-left _ (rest early)
-      go (no late) rest = let e : i ≡ k + suc more = omega arith in merged-right _ (merge-sized more ∙ sym (sized _)) (rw e at h)
+      go (yes early) rest = subsumes-widens _ (merged-covers-left _ _) (rest early)
+      go (no late) rest = let e : i ≡ k + suc more = omega arith in subsumes-widens _ (merged-covers-right _ _ (merge-sized more ∙ sym (sized _))) (rw e at h)
+
+module _ (none : Cube) (cubes : ℕ → Cube) (size : ℕ) (sized : (k : ℕ) → length (cubes k) ≡ size) (k : ℕ) where
+  pub mergeFrom-sized : length none ≡ size → (count : ℕ) → length (mergeFrom none cubes k count) ≡ size
+  unfolding mergeFrom
+  mergeFrom-sized e zero = e
+  mergeFrom-sized e (suc more) = merge-sized cubes size sized k more
+
+  pub mergeFrom-widens : (count i : ℕ) → k ≤ i → i < k + count → {s : List Bool} → cubes i ∋ s → mergeFrom none cubes k count ∋ s
+  unfolding mergeFrom
+  mergeFrom-widens zero i l u h = absurd (omega arith)
+  mergeFrom-widens (suc more) i l u h = merge-widens cubes size sized k more i l (omega arith) h
 
 -- ---- the cubes of a run
 
@@ -99,12 +75,3 @@ module _ (c : Circuit) (w : ℕ) where
   unfolding cubeAt stage store start hold
   cube-sized zero = length-map (c .latches) _
   cube-sized (suc k) = length-adjust _ _ _ ∙ reached-sized c (stage c w k)
-
-  -- what follows cube k lies in b, and b in the cube stored next
-  pub next-reached : (k : ℕ) → Inside (nextCube c (cubeAt c w k)) (reached c (stage c w k))
-  unfolding reached cubeAt
-  next-reached k state = hold-widens (stage c w k .held)
-
-  pub reached-stored : (k : ℕ) → Inside (reached c (stage c w k)) (cubeAt c w (suc k))
-  unfolding cubeAt stage store
-  reached-stored k state = hold-widens _

@@ -13,7 +13,7 @@ use Rattle.circuit.specs.Refusal.{Test, _or_, refusal, leftBy}
 use Rattle.circuit.specs.Table.{circuitOf, boardTests}
 use Rattle.cubes.specs.declared.RunAnswer.{RunAnswer}
 use Rattle.cubes.specs.Buffer.{cubeBytes, packCubes}
-use Rattle.cubes.specs.Run.{cubeAt, Ending, closed, full, run, verdict, settled}
+use Rattle.cubes.specs.Run.{cubeAt, Ending, stops, full, run, verdict, settled}
 
 -- ---- cubes in the buffer
 
@@ -23,16 +23,16 @@ roomIn c buffer = length buffer / cubeBytes (c .latches)
 
 -- how many cubes are stored: n, or all that there is room for
 unfoldable pub storedCubes : ℕ → Ending → ℕ
-storedCubes room (closed n j) = n
+storedCubes room (stops n j) = n
 storedCubes room full = room
 
 unfoldable pub backTo : Ending → ℕ
-backTo (closed n j) = j
+backTo (stops n j) = j
 backTo full = 0
 
 -- 15 where the run is not closed
 unfoldable pub outcomeNumber : Ending → ℕ
-outcomeNumber (closed n j) = 0
+outcomeNumber (stops n j) = 0
 outcomeNumber full = 15
 
 -- ---- the public call
@@ -82,7 +82,7 @@ module _ (g : RunGiven) where
   verdictFields = verdict circuitIn (cubeAt circuitIn (g .w)) cubesIn
 
   unfoldable pub settledFields : Cube
-  settledFields = settled (cubeAt circuitIn (g .w)) cubesIn backIn
+  settledFields = settled circuitIn (cubeAt circuitIn (g .w)) cubesIn backIn
 
 -- The contract of the run: what it answers, and every byte of the three buffers at exit.
 -- A refusal before 15 answers zeros and changes nothing; 15 answers n = room and stores that many cubes, and leaves verdict and settled record.

@@ -1,17 +1,11 @@
 -- A run's outcome as the code tells it, and the cube for a tick; nothing here has to be believed. Assumes nothing.
 use mathlib.Core.Bool.{Bool, true, false}
-use mathlib.Core.List.{List}
 use Prim.Native.Nat.{ℕ, _+_, _-_, _%_, min}
-use Rattle.three.specs.Cube.{Cube, _∋_}
-use Rattle.cubes.specs.Run.{Ending, closed, full}
+use Rattle.cubes.specs.Run.{Ending, stops, full}
 
-unfoldable pub isClosed : Ending → Bool
-isClosed (closed n j) = true
-isClosed full = false
-
--- every state of a lies in b
-abbrev pub Inside : Cube → Cube → Type 0
-Inside a b = (state : List Bool) → a ∋ state → b ∋ state
+unfoldable pub hasStopped : Ending → Bool
+hasStopped (stops n j) = true
+hasStopped full = false
 
 -- the cube for tick t of a run closed with n cubes back to j: t itself below n, then round and round from j to n − 1
 unfoldable pub place : ℕ → ℕ → ℕ → ℕ

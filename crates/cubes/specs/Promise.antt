@@ -36,6 +36,6 @@ module _ (g : RunGiven) (r : RunAnswer) (cubes verdict settled : List ℕ) where
     -- with w at least 1 and room for w × L + 1 cubes a run that is not refused closes within them
     pub closes : refusedBy g ≡ 0 → 1 ≤ g .w → g .w * g .counts .latches + 1 ≤ roomIn (g .counts) (g .cubes)
         → (r .number ≡ 0) × (r .cubes ≤ g .w * g .counts .latches + 1)
-    -- and so with room for w + L cubes, which is never more: within those, and with no latch within one
+    -- less room is enough: with w at least 1 and room for w + L cubes (with no latch for one) a run that is not refused closes within them
     pub closes-sharply : refusedBy g ≡ 0 → 1 ≤ g .w → mostCubes (g .w) (g .counts .latches) ≤ roomIn (g .counts) (g .cubes)
         → (r .number ≡ 0) × (r .cubes ≤ mostCubes (g .w) (g .counts .latches))

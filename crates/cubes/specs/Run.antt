@@ -2,7 +2,7 @@
 use mathlib.Core.Bool.{Bool, true, false, not, _||_}
 use mathlib.Core.List.{List, map, zipWith}
 use Prim.Native.Nat.{ℕ, zero, suc, _+_, _-_, _%_}
-use lib.ListN.{replicate}
+use lib.ListN.{length, replicate}
 use lib.Dec.{eqb}
 use Rattle.three.specs.Lists.{adjust}
 use Rattle.three.specs.Value.{Three, unknown, low, high, ternary}
@@ -87,10 +87,16 @@ search cubes (suc n) b =
       | nowhere ↦ elim (subsumes (cubes n) b) [ true ↦ at n | false ↦ nowhere ]
     ]
 
--- closed with n cubes back to j, or no room for the next cube
+-- a run stops with n cubes, closed back to j below n (j = n is kept for one that ends), or has no room for the next cube
 pub data Ending : Type 0 where
-  closed : ℕ → ℕ → Ending
+  stops : ℕ → ℕ → Ending
   full : Ending
+
+-- with one cube more, by where b falls
+unfoldable pub stepped : ℕ → Ending → Found → Ending
+stepped n (stops m j) f = stops m j
+stepped n full (at j) = stops n j
+stepped n full nowhere = full
 
 module _ (c : Circuit) (w : ℕ) where
   -- where b after cube number k falls, among the cubes up to k
@@ -100,21 +106,22 @@ module _ (c : Circuit) (w : ℕ) where
   -- the run with room for so many cubes
   unfoldable pub run : ℕ → Ending
   run zero = full
-  run (suc k) =
-      elim (run k) [
-        | closed n j ↦ closed n j
-        | full ↦ elim (back k) [ at j ↦ closed (suc k) j | nowhere ↦ full ]
-      ]
+  run (suc k) = stepped (suc k) (run k) (back k)
 
 -- the merge of cubes k, k + 1, .., k + more: what is known alike in all of them
 unfoldable pub merge : (ℕ → Cube) → ℕ → ℕ → Cube
 merge cubes k zero = cubes k
 merge cubes k (suc more) = merged (merge cubes k more) (cubes (k + suc more))
 
--- per lamp never (low) if 0 in all n cubes, always (high) if 1 in all, else open (unknown)
-unfoldable pub verdict : Circuit → (ℕ → Cube) → ℕ → Cube
-verdict c cubes n = merge (λ k. lampsIn c (cubes k)) 0 (n - 1)
+-- the merge of so many cubes from number k on, and what stands where there is none
+unfoldable pub mergeFrom : Cube → (ℕ → Cube) → ℕ → ℕ → Cube
+mergeFrom none cubes k zero = none
+mergeFrom none cubes k (suc more) = merge cubes k more
 
--- per latch the known value shared by cubes j to n − 1
-unfoldable pub settled : (ℕ → Cube) → ℕ → ℕ → Cube
-settled cubes n j = merge cubes j (n - 1 - j)
+-- per lamp never (low) if 0 in all n cubes, always (high) if 1 in all, else open (unknown); with no cube never
+unfoldable pub verdict : Circuit → (ℕ → Cube) → ℕ → Cube
+verdict c cubes n = mergeFrom (replicate (length (c .lamps)) low) (λ k. lampsIn c (cubes k)) 0 n
+
+-- per latch the known value shared by cubes j to n − 1, else unknown; where j = n there are none of these
+unfoldable pub settled : Circuit → (ℕ → Cube) → ℕ → ℕ → Cube
+settled c cubes n j = mergeFrom (replicate (length (c .latches)) unknown) cubes j (n - j)

@@ -4,9 +4,10 @@ use mathlib.Core.List.{List, _++_}
 use Prim.Native.Nat.{ℕ, _+_, _*_, _-_, _<_, _≤_}
 use native.Mathlib.Nat.{zero-mul, suc-mul, sub-zero, mul-le-mul-right, zero-add}
 use native.Mathlib.Omega.{arith}
-use lib.ListN.{length, getD, take, drop, set, length-drop}
+use lib.ListN.{length, getD, take, drop, set, replicate, length-drop, length-replicate}
 use lib.Seq.{paste, getD-drop}
 use Rattle.three.specs.Lists.{over}
+use Rattle.three.specs.Value.{unknown, low}
 use Rattle.three.specs.Cube.{Cube, merged, knownFields}
 use Rattle.three.specs.Record.{bytesFor, pack, unpack, IsRecord}
 use Rattle.three.proofs.Pack.{length-pack, unpack-over}
@@ -14,14 +15,14 @@ use Rattle.three.proofs.Soundness.{record-over}
 use Rattle.circuit.specs.declared.Counts.{Counts}
 use Rattle.circuit.specs.Circuit.{Circuit, lamps}
 use Rattle.circuit.specs.Table.{circuitOf}
-use Rattle.cubes.specs.Run.{lampsIn, merge, verdict, settled}
+use Rattle.cubes.specs.Run.{lampsIn, mergeFrom, verdict, settled}
 use Rattle.cubes.specs.Buffer.{cubeBytes, IsCube, cubeOf, cubeIn}
 use Rattle.cubes.proofs.StoredCube.{cube-bytes, cube-fields, cube-record as is-record, cube-in-sized, cube-repacked, cube-at}
-use Rattle.judge.specs.JudgeInCode.{Judgeable, Settleable}
-use Rattle.cubes.proofs.Wider.{merge-sized}
+use Rattle.judge.specs.JudgeInCode.{Judgeable, Settleable, settledFrom}
+use Rattle.cubes.proofs.Wider.{mergeFrom-sized}
 use Rattle.stored.proofs.Reaching.{part-tail}
 use Rattle.cubes.proofs.Merging.{over-over, length-over, Merged, merged-first, merged-record, merged-length, merged-next, merged-last}
-use Rattle.cubes.proofs.Buffered.{lamps-counted}
+use Rattle.cubes.proofs.Buffered.{lamps-counted, literals-counted, latches-counted}
 use Rattle.three.proofs.Loops.{Stored, stored-next}
 
 -- ---- where a cube stands
@@ -100,12 +101,15 @@ module _ (c : Counts) (words : List ℕ) (len n : ℕ) (cubes : List ℕ) (j : J
     pub judged-last : (e : List ℕ) (k : ℕ) → Judged c words cubes begun e k → k ≡ n → e ≡ over (pack (verdict circuit (cubeIn (c .latches) cubes) n)) entry
     unfolding verdict
     judged-last e k m h =
-        merged-last _ _ _ _ _ room′ e k n m h
-        ∙ ap₂ (λ (i : ℕ) (l : List ℕ). over (pack (merge lampsAt 0 i)) l) (sub-zero (n - 1)) begun-with
+        merged-last _ _ _ _ _ room′ none e k n m h
+        ∙ ap₂ (λ (i : ℕ) (l : List ℕ). over (pack (mergeFrom none lampsAt 0 i)) l) (sub-zero n) begun-with
         ∙ over-over (pack (lampsAt 0)) _ entry (omega (arith, lamps-long 0, merged-long))
       where
-        merged-long : length (pack (merge lampsAt 0 (n - 1))) ≡ bytesFor (c .lamps)
-        merged-long = rw (length-pack, merge-sized lampsAt (c .lamps) (lamps-sized c words cubes) 0 (n - 1))
+        none : Cube
+        none = replicate (length (circuit .lamps)) low
+
+        merged-long : length (pack (mergeFrom none lampsAt 0 n)) ≡ bytesFor (c .lamps)
+        merged-long = rw (length-pack, mergeFrom-sized none lampsAt (c .lamps) (lamps-sized c words cubes) 0 (length-replicate _ low ∙ literals-counted c words) n)
 
 -- ---- a cube copied
 
@@ -162,15 +166,15 @@ module _ (latches len n j : ℕ) (cubes : List ℕ) (s : Settleable latches len 
         → e′ ≡ over (pack (merged (unpack latches e) (unpack latches (take (length cubes - k * len) (drop (k * len) cubes))))) e → Settled latches cubes j begun e′ (k + 1)
     settled-next e e′ k m ee = merged-next _ _ _ _ _ room″ e e′ k _ m (rw part-tail (cube-fields latches _ ∙ cube-at latches (s .size) cubes k)) ee
 
-    pub settled-last : (e : List ℕ) (k : ℕ) → Settled latches cubes j begun e k → k ≡ n → e ≡ over (pack (settled (cubeIn latches cubes) n j)) entry
-    unfolding settled
+    pub settled-last : (e : List ℕ) (k : ℕ) → Settled latches cubes j begun e k → k ≡ n → e ≡ over (pack (settledFrom latches cubes n j)) entry
+    unfolding settledFrom
     settled-last e k m h =
-        merged-last _ _ _ _ _ room″ e k n m h
-        ∙ ap (over (pack (merge (cubeIn latches cubes) j (n - 1 - j)))) latches-begun
+        merged-last _ _ _ _ _ room″ (replicate latches unknown) e k n m h
+        ∙ ap (over (pack (mergeFrom (replicate latches unknown) (cubeIn latches cubes) j (n - j)))) latches-begun
         ∙ over-over (pack (cubeIn latches cubes j)) _ entry (omega (arith, cube-long j, merged-long))
       where
-        merged-long : length (pack (merge (cubeIn latches cubes) j (n - 1 - j))) ≡ bytesFor latches
-        merged-long = rw (length-pack, merge-sized (cubeIn latches cubes) latches (cube-in-sized latches cubes) j (n - 1 - j))
+        merged-long : length (pack (mergeFrom (replicate latches unknown) (cubeIn latches cubes) j (n - j))) ≡ bytesFor latches
+        merged-long = rw (length-pack, mergeFrom-sized (replicate latches unknown) (cubeIn latches cubes) latches (cube-in-sized latches cubes) j (length-replicate latches unknown) (n - j))
 
 -- ---- the judge
 
@@ -181,13 +185,21 @@ module _ (c : Counts) (words : List ℕ) (n : ℕ) (cubes : List ℕ) (j : Judge
   pub settleable : (len : ℕ) → len ≡ cubeBytes (c .latches) → (k : ℕ) → k < n → Settleable (c .latches) len n k cubes
   settleable len e k h = rw e (record { few = j .legal .bounded .latches; size = refl; below = h; fits = j .fits; cube = j .cube })
 
-  pub settled-record-of : (k : ℕ) (entry exit : List ℕ) → bytesFor (c .latches) ≤ length entry → exit ≡ over (pack (settled (cubeIn (c .latches) cubes) n k)) entry → IsRecord (c .latches) exit
-  unfolding settled
-  settled-record-of k entry exit room e = rw e (record-over (c .latches) _ entry (merge-sized (cubeIn (c .latches) cubes) (c .latches) (cube-in-sized (c .latches) cubes) k (n - 1 - k)) room)
+  module _ (k : ℕ) (entry exit : List ℕ) (left : exit ≡ over (pack (settledFrom (c .latches) cubes n k)) entry) where
+    settled-sized : length (settledFrom (c .latches) cubes n k) ≡ c .latches
+    unfolding settledFrom
+    settled-sized = mergeFrom-sized _ _ (c .latches) (cube-in-sized (c .latches) cubes) k (length-replicate (c .latches) unknown) (n - k)
 
-  pub settled-known : (k s : ℕ) (entry exit : List ℕ) → exit ≡ over (pack (settled (cubeIn (c .latches) cubes) n k)) entry → s ≡ knownFields (unpack (c .latches) exit)
-      → s ≡ knownFields (settled (cubeIn (c .latches) cubes) n k)
-  unfolding settled
-  settled-known k s entry exit e es =
-      es ∙ ap (λ (l : List ℕ). knownFields (unpack (c .latches) l)) e
-      ∙ ap knownFields (unpack-over (c .latches) _ entry (merge-sized (cubeIn (c .latches) cubes) (c .latches) (cube-in-sized (c .latches) cubes) k (n - 1 - k)))
+    settled-same : settledFrom (c .latches) cubes n k ≡ settled (circuitOf c words) (cubeIn (c .latches) cubes) n k
+    unfolding settledFrom settled
+    settled-same = ap (λ (l : ℕ). mergeFrom (replicate l unknown) (cubeIn (c .latches) cubes) k (n - k)) (sym (latches-counted c words))
+
+    pub settled-record-of : bytesFor (c .latches) ≤ length entry → IsRecord (c .latches) exit
+    settled-record-of room = rw left (record-over (c .latches) _ entry settled-sized room)
+
+    pub settled-left : exit ≡ over (pack (settled (circuitOf c words) (cubeIn (c .latches) cubes) n k)) entry
+    settled-left = left ∙ ap (λ (v : Cube). over (pack v) entry) settled-same
+
+    pub settled-known : (s : ℕ) → s ≡ knownFields (unpack (c .latches) exit) → s ≡ knownFields (settled (circuitOf c words) (cubeIn (c .latches) cubes) n k)
+    settled-known s es =
+        es ∙ ap (λ (l : List ℕ). knownFields (unpack (c .latches) l)) left ∙ ap knownFields (unpack-over (c .latches) _ entry settled-sized ∙ settled-same)

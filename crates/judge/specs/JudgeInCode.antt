@@ -1,15 +1,16 @@
 -- What the judge needs and leaves; nothing here has to be believed. Assumes nothing.
 use mathlib.Core.Path.{_≡_}
 use mathlib.Core.List.{List}
-use Prim.Native.Nat.{ℕ, _*_, _<_, _≤_}
-use lib.ListN.{length, drop}
+use Prim.Native.Nat.{ℕ, _*_, _-_, _<_, _≤_}
+use lib.ListN.{length, drop, replicate}
 use Rattle.three.specs.Lists.{over}
-use Rattle.three.specs.Cube.{knownFields}
+use Rattle.three.specs.Value.{unknown}
+use Rattle.three.specs.Cube.{Cube, knownFields}
 use Rattle.three.specs.Record.{pack}
 use Rattle.circuit.specs.declared.Counts.{Counts}
 use Rattle.circuit.specs.Table.{circuitOf}
 use Rattle.circuit.specs.RulesInCode.{Legal}
-use Rattle.cubes.specs.Run.{verdict, settled}
+use Rattle.cubes.specs.Run.{mergeFrom, verdict, settled}
 use Rattle.cubes.specs.Buffer.{cubeBytes, IsCube, cubeIn}
 
 -- n cubes stand in the buffer, each a cube
@@ -31,5 +32,9 @@ pub record Settleable (latches len n j : ℕ) (cubes : List ℕ) : Type 0 where
 -- what the judge leaves and answers
 pub record Judgement (c : Counts) (words cubes : List ℕ) (n j : ℕ) (verdict₀ settled₀ : List ℕ) (s : ℕ) (verdict₁ settled₁ : List ℕ) : Type 0 where
   pub lamps : verdict₁ ≡ over (pack (verdict (circuitOf c words) (cubeIn (c .latches) cubes) n)) verdict₀
-  pub latches : settled₁ ≡ over (pack (settled (cubeIn (c .latches) cubes) n j)) settled₀
-  pub count : s ≡ knownFields (settled (cubeIn (c .latches) cubes) n j)
+  pub latches : settled₁ ≡ over (pack (settled (circuitOf c words) (cubeIn (c .latches) cubes) n j)) settled₀
+  pub count : s ≡ knownFields (settled (circuitOf c words) (cubeIn (c .latches) cubes) n j)
+
+-- the settled record by the count of latches alone
+unfoldable pub settledFrom : ℕ → List ℕ → ℕ → ℕ → Cube
+settledFrom latches cubes n j = mergeFrom (replicate latches unknown) (cubeIn latches cubes) j (n - j)

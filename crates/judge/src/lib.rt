@@ -9,10 +9,10 @@ ghost use Rattle.three.specs.Lists.{over};
 ghost use Rattle.three.specs.Record.{bytesFor, pack};
 ghost use Rattle.circuit.specs.Table.{circuitOf};
 ghost use Rattle.circuit.specs.RulesInCode.{Legal};
-ghost use Rattle.cubes.specs.Run.{lampsIn, verdict as verdictOf, settled as settledOf};
+ghost use Rattle.cubes.specs.Run.{lampsIn, verdict as verdictOf};
 ghost use Rattle.cubes.specs.Buffer.{cubeBytes, IsCube, cubeOf, cubeIn};
 ghost use Rattle.stored.specs.CubesInCode.{SwitchesX};
-ghost use Rattle.judge.specs.JudgeInCode.{Judgeable, Settleable, Judgement};
+ghost use Rattle.judge.specs.JudgeInCode.{settledFrom, Judgeable, Settleable, Judgement};
 
 // The record of the lamps in the cube at byte `at`.
 fn lamps_at(
@@ -64,7 +64,7 @@ fn copy_cube(cubes: &[u8], at: usize, len: usize, out: &mut [u8])
 // "per latch the known value shared by cubes j to n − 1, else 00"
 fn settle_latches(latches: usize, cubes: &[u8], len: usize, n: usize, j: usize, settled: &mut [u8])
     requires { ⌜ Settleable latches len n j (now cubes) × (bytesFor latches ≤ length (now settled)) ⌝ }
-    ensures { λ _. ⌜ now (settled .exit) ≡ over (pack (settledOf (cubeIn latches (now (cubes .entry))) n j)) (now (settled .entry)) ⌝ }
+    ensures { λ _. ⌜ now (settled .exit) ≡ over (pack (settledFrom latches (now (cubes .entry)) n j)) (now (settled .entry)) ⌝ }
 {
     copy_cube(cubes, j * len, len, settled);
     for k in j + 1..n {

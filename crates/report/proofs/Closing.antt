@@ -9,31 +9,31 @@ use borrow.Author.Tests.{leb-true}
 use lib.Dec.{leb}
 use lib.ListN.{getD}
 use Rattle.three.specs.Lists.{every}
-use Rattle.three.specs.Record.{bytesFor}
 use Rattle.three.proofs.Lists.{every-at}
 use Rattle.circuit.specs.Circuit.{Circuit}
 use Rattle.circuit.specs.Table.{circuitOf}
 use Rattle.text.specs.Outcome.{accepted}
 use Rattle.text.specs.Text.{Content, readText}
 use Rattle.text.specs.Bench.{bytes}
+use Rattle.cubes.specs.Buffer.{cubeBytes}
 use Rattle.cubes.specs.Run.{cubeAt, run, verdict, settled}
 use Rattle.cubes.specs.Promise.{mostCubes}
-use Rattle.cubes.proofs.Buffered.{latches-sized}
+use Rattle.cubes.proofs.Buffered.{latches-counted}
 use Rattle.cubes.proofs.Closes.{ClosesWithin, run-closes}
 use Rattle.rows.specs.Rows.{item}
 use Rattle.report.specs.Report.{closing, refusing, closedReport, ended, runReport, reported, reportOf}
 
 -- the buffer has room for the most cubes that a run of so many latches takes
 unfoldable pub enough : ℕ → Bool
-enough latches = leb (mostCubes 16 latches) (65536 / bytesFor latches)
+enough latches = leb (mostCubes 16 latches) (65536 / cubeBytes latches)
 
-enough-room : (latches : ℕ) → latches ≤ 504 → mostCubes 16 latches ≤ 65536 / bytesFor latches
-unfolding enough every mostCubes
+enough-room : (latches : ℕ) → latches ≤ 504 → mostCubes 16 latches ≤ 65536 / cubeBytes latches
+unfolding enough every mostCubes cubeBytes
 enough-room latches few = leb-true _ _ (every-at 505 enough refl latches (omega arith))
 
 -- at 505 the bound says nothing: 521 cubes, and room for 516
 pub no-further : enough 505 ≡ false
-unfolding enough mostCubes
+unfolding enough mostCubes cubeBytes
 no-further = refl
 
 -- n and j of a closed run, and the report on it
@@ -41,15 +41,15 @@ pub record ReportsClosed (text : List ℕ) (t : Content) : Type 0 where
   pub n : ℕ
   pub j : ℕ
   pub few : n ≤ mostCubes 16 (t .counts .latches)
-  pub says : let c : Circuit = circuitOf (t .counts) (t .words) in reportOf text ≡ closedReport n j (verdict c (cubeAt c 16) n) (settled (cubeAt c 16) n j)
+  pub says : let c : Circuit = circuitOf (t .counts) (t .words) in reportOf text ≡ closedReport n j (verdict c (cubeAt c 16) n) (settled c (cubeAt c 16) n j)
 
 pub reports-closed : (text : List ℕ) (t : Content) → readText text ≡ accepted t → t .counts .latches ≤ 504 → ReportsClosed text t
 unfolding reportOf reported runReport ended
 reports-closed text t e few =
     let c : Circuit = circuitOf (t .counts) (t .words) in
-    let sized = latches-sized (t .counts) (t .words) 16 in
-    let r : ClosesWithin (mostCubes 16 (t .counts .latches)) (run c 16 (65536 / bytesFor (t .counts .latches))) =
-    rw sized at (run-closes c 16 (65536 / bytesFor (t .counts .latches)) (omega arith) (rw sized (enough-room (t .counts .latches) few))) in
+    let sized = latches-counted (t .counts) (t .words) in
+    let r : ClosesWithin (mostCubes 16 (t .counts .latches)) (run c 16 (65536 / cubeBytes (t .counts .latches))) =
+    rw sized at (run-closes c 16 (65536 / cubeBytes (t .counts .latches)) (omega arith) (rw sized (enough-room (t .counts .latches) few))) in
     record { n = r .n; j = r .j; few = r .few; says = ap reported e ∙ ap (ended c) (r .is-closed) }
 
 -- a closed report opens with `c`, a refusal with `r`

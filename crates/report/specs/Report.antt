@@ -11,7 +11,7 @@ use Rattle.text.specs.Outcome.{Outcome, accepted, refused}
 use Rattle.text.specs.Text.{Content, readText}
 use Rattle.text.specs.Bench.{bytes}
 use Rattle.cubes.specs.Buffer.{cubeBytes}
-use Rattle.cubes.specs.Run.{cubeAt, Ending, closed, full, run, verdict, settled}
+use Rattle.cubes.specs.Run.{cubeAt, Ending, stops, full, run, verdict, settled}
 use Rattle.rows.specs.declared.Row.{Row}
 use Rattle.rows.specs.Rows.{item, rows}
 
@@ -29,7 +29,7 @@ closedReport n j lamps latches = closing n j (knownFields latches) ++ (rows Row.
 
 -- a circuit's run with w = 16
 unfoldable pub ended : Circuit → Ending → List ℕ
-ended c (closed n j) = closedReport n j (verdict c (cubeAt c 16) n) (settled (cubeAt c 16) n j)
+ended c (stops n j) = closedReport n j (verdict c (cubeAt c 16) n) (settled c (cubeAt c 16) n j)
 ended c full = refusing 15
 
 -- and a cube buffer of 65,536 bytes

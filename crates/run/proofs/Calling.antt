@@ -16,13 +16,13 @@ use Rattle.circuit.specs.Table.{circuitOf}
 use Rattle.circuit.specs.RulesInCode.{Legal}
 use Rattle.circuit.proofs.Refusals.{refused-old, accepted-new}
 use Rattle.chain.specs.declared.Chain.{Chain}
-use Rattle.cubes.specs.Run.{cubeAt, closed, run, verdict, settled}
+use Rattle.cubes.specs.Run.{cubeAt, run, verdict, settled}
 use Rattle.cubes.specs.Call.{roomIn, storedCubes, backTo, runTests, RunGiven, refusedBy, circuitIn, outcomeIn, cubesIn, backIn, verdictFields, settledFields, Runs}
 use Rattle.chain.specs.ChainInCode.{Chained}
 use Rattle.judge.specs.JudgeInCode.{Judgeable, Judgement}
 use Rattle.cubes.proofs.Steps.{closes}
 use Rattle.cubes.proofs.Storing.{records-sized, stored-sound}
-use Rattle.cubes.proofs.Buffered.{cubes-sized, closed-within, cube-in, full-is, verdict-same, settled-same, closed-number}
+use Rattle.cubes.proofs.Buffered.{cubes-sized, stopped-within, cube-in, full-is, verdict-same, settled-same, stopped-number}
 use Rattle.cubes.proofs.Merging.{length-over}
 use Rattle.cubes.specs.Buffer.{packCubes, cubeBytes, cubeIn}
 
@@ -42,9 +42,9 @@ module _ (c : Counts) (words : List ℕ) (w : ℕ) (buffer : List ℕ) where
       cube = λ k h. rw fills (stored-sound (c .latches) (cubeAt circuit w) (cubes-sized c words w) buffer n k h room);
     }
 
-  module _ (r : Chain) (cubes : List ℕ) (chain : Chained c words w buffer r cubes) (is-closed : r .closed ≡ true) where
+  module _ (r : Chain) (cubes : List ℕ) (chain : Chained c words w buffer r cubes) (is-closed : r .stopped ≡ true) where
     within : (backTo (run circuit w (roomIn c buffer)) < storedCubes (roomIn c buffer) (run circuit w (roomIn c buffer))) × (storedCubes (roomIn c buffer) (run circuit w (roomIn c buffer)) ≤ roomIn c buffer)
-    within = closed-within circuit w (roomIn c buffer) (sym (chain .closes) ∙ is-closed)
+    within = stopped-within circuit w (roomIn c buffer) (sym (chain .closes) ∙ is-closed)
 
     pub back-below : r .back < r .count
     back-below = rw (chain .goes-back, chain .counts) (within .0)
@@ -80,7 +80,7 @@ module _ (g : RunGiven) where
     unfolding refusedBy
     ok = sym none
 
-    pub run-full : r .closed ≡ false → Runs g (record { number = 15; cubes = r .count; back = 0; settled = 0 }) cubes (g .verdict) (g .settled)
+    pub run-full : r .stopped ≡ false → Runs g (record { number = 15; cubes = r .count; back = 0; settled = 0 }) cubes (g .verdict) (g .settled)
     unfolding outcomeIn circuitIn cubesIn backIn
     run-full h =
         let is-full = full-is (outcomeIn g) (sym (chain .closes) ∙ h) in
@@ -95,25 +95,25 @@ module _ (g : RunGiven) where
           fills-settled = refused-old 15 _ _ refused;
         }
 
-    module _ (h : r .closed ≡ true) (s : ℕ) (verdict′ settled′ : List ℕ) (judged : Judgement (g .counts) (g .table) cubes (r .count) (r .back) (g .verdict) (g .settled) s verdict′ settled′) where
+    module _ (h : r .stopped ≡ true) (s : ℕ) (verdict′ settled′ : List ℕ) (judged : Judgement (g .counts) (g .table) cubes (r .count) (r .back) (g .verdict) (g .settled) s verdict′ settled′) where
       same-cube : (k : ℕ) → k < r .count → cubeIn (g .counts .latches) cubes k ≡ cubeAt (circuitIn g) (g .w) k
       unfolding circuitIn
       same-cube = cube-in (g .counts) (g .table) (g .w) (g .cubes) (r .count) cubes (chain .fills)
 
       verdict-is : verdict (circuitIn g) (cubeIn (g .counts .latches) cubes) (r .count) ≡ verdictFields g
       unfolding verdictFields cubesIn circuitIn outcomeIn
-      verdict-is = verdict-same _ _ (r .count) same-cube (circuitIn g) (chain .some) ∙ ap (verdict (circuitIn g) (cubeAt (circuitIn g) (g .w))) (chain .counts)
+      verdict-is = verdict-same (circuitIn g) _ _ (r .count) same-cube ∙ ap (verdict (circuitIn g) (cubeAt (circuitIn g) (g .w))) (chain .counts)
 
-      settled-is : settled (cubeIn (g .counts .latches) cubes) (r .count) (r .back) ≡ settledFields g
+      settled-is : settled (circuitIn g) (cubeIn (g .counts .latches) cubes) (r .count) (r .back) ≡ settledFields g
       unfolding settledFields cubesIn backIn circuitIn outcomeIn
       settled-is =
-          settled-same _ _ (r .count) same-cube (r .back) (back-below (g .counts) (g .table) (g .w) (g .cubes) r cubes chain h)
-          ∙ ap₂ (settled (cubeAt (circuitIn g) (g .w))) (chain .counts) (chain .goes-back)
+          settled-same (circuitIn g) _ _ (r .count) same-cube (r .back)
+          ∙ ap₂ (settled (circuitIn g) (cubeAt (circuitIn g) (g .w))) (chain .counts) (chain .goes-back)
 
       pub run-closed : Runs g (record { number = 0; cubes = r .count; back = r .back; settled = s }) cubes verdict′ settled′
       unfolding outcomeIn circuitIn cubesIn backIn
       run-closed = record {
-        answers = closed-number (outcomeIn g) (sym (chain .closes) ∙ h) ∙ accepted-new (refusedBy g) _ _ ok;
+        answers = stopped-number (outcomeIn g) (sym (chain .closes) ∙ h) ∙ accepted-new (refusedBy g) _ _ ok;
         counts = chain .counts ∙ accepted-new (refusedBy g) _ _ ok;
         goes-back = chain .goes-back ∙ accepted-new (refusedBy g) _ _ ok;
         settles = judged .count ∙ ap knownFields settled-is ∙ accepted-new 0 _ _ refl;

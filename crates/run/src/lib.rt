@@ -69,7 +69,7 @@ pub fn run(
     let chain = chain::make_chain(counts, table, w, cubes);
     let n = chain.count;
     let j = chain.back;
-    if !chain.closed {
+    if !chain.stopped {
         return RunAnswer {
             number: 15,
             cubes: n,

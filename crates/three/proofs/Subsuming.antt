@@ -1,5 +1,5 @@
 -- Subsumption field by field: the wider of two cubes is the other, or knows fewer fields. Assumes nothing.
-use mathlib.Core.Path.{_≡_, refl, ap, ap₂}
+use mathlib.Core.Path.{_≡_, refl, sym, ap, ap₂, _∙_}
 use mathlib.Core.Bool.{true}
 use mathlib.Core.List.{_∷_}
 use mathlib.Core.Logic.{_⊎_, inl, inr}
@@ -7,9 +7,16 @@ use Prim.Native.Nat.{_<_}
 use native.Mathlib.Omega.{arith}
 use Rattle.three.specs.Lists.{Each, empty, also}
 use Rattle.three.specs.Value.{Three, unknown, low, high, code}
-use Rattle.three.specs.Cube.{Cube, alike, allows, subsumes, knownFields}
+use Rattle.three.specs.Cube.{Cube, alike, allows, subsumes, knownFields, merged}
 use Rattle.three.proofs.Fields.{alike-same}
+use Rattle.three.proofs.Merge.{merged-grouping, subsumes-length, subsumes-keeps, keeps-subsumes}
 use Rattle.three.proofs.Counting.{count, known-cons}
+
+pub subsumes-trans : (a b c : Cube) → subsumes a b ≡ true → subsumes b c ≡ true → subsumes a c ≡ true
+subsumes-trans a b c h g =
+    let long = subsumes-length a b h in
+    keeps-subsumes a c (long ∙ subsumes-length b c g)
+    (ap (λ v. merged v c) (sym (subsumes-keeps a b h)) ∙ merged-grouping a b c long ∙ ap (merged a) (subsumes-keeps b c g) ∙ subsumes-keeps a b h)
 
 -- a field is X, or the other
 abbrev pub Wider : Three → Three → Type 0

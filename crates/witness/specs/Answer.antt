@@ -28,7 +28,7 @@ answerFrom refused c w room outcome =
     let number : ℕ = leftBy refused (outcomeNumber outcome) refused in
     let n : ℕ = storedCubes room outcome in
     let j : ℕ = backTo outcome in
-    let fields : Cube = settledOf (cubeAt c w) n j in
+    let fields : Cube = settledOf c (cubeAt c w) n j in
     record {
       number = number;
       n = leftBy refused n 0;

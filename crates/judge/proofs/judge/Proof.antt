@@ -1,5 +1,5 @@
 -- `judge::judge` meets its contract: the lamps, then the latches, and the count of those. Assumes nothing.
-use Rattle.judge.proofs.Judging.{judgeable-len, settleable, settled-record-of, settled-known}
+use Rattle.judge.proofs.Judging.{judgeable-len, settleable, settled-record-of, settled-left, settled-known}
 use native.Mathlib.Omega.{arith}
 use borrow.Author.Needs.{needs}
 use Rattle.judge.proofs.judge.Statement.{statement}
@@ -21,7 +21,7 @@ settle-latches-requires c κs =
 known-fields-requires : tie.Need-known-fields-requires
 known-fields-requires c κs =
     let pre = c .before .before .before .before .before .before .before .before .before .before .before .before .before .before .pre in
-    (omega (arith, pre .0 .legal .bounded), settled-record-of _ _ _ _ (pre .0) _ _ _ (pre .3) (c .before .before .before .settle-latches .ensures))
+    (omega (arith, pre .0 .legal .bounded), settled-record-of _ _ _ _ (pre .0) _ _ _ (c .before .before .before .settle-latches .ensures) (pre .3))
 
 same-length : tie.Need-same-length
 same-length c = search needs
@@ -34,8 +34,8 @@ returns c =
     let pre = c .before .before .before .before .before .before .before .before .before .before .before .before .before .before .before .pre in
     record {
       lamps = c .before .before .before .before .before .before .before .before .judge-lamps .ensures;
-      latches = c .before .before .before .before .settle-latches .ensures;
-      count = settled-known _ _ _ _ (pre .0) _ _ _ _ (c .before .before .before .before .settle-latches .ensures) (c .known-fields .ensures);
+      latches = settled-left _ _ _ _ (pre .0) _ _ _ (c .before .before .before .before .settle-latches .ensures);
+      count = settled-known _ _ _ _ (pre .0) _ _ _ (c .before .before .before .before .settle-latches .ensures) _ (c .known-fields .ensures);
     }
 
 pub judge-spec : {M : Type 1} → statement M
