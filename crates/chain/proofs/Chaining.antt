@@ -8,7 +8,7 @@ use native.Mathlib.Numerals.{add-one}
 use native.Mathlib.Omega.{arith}
 use lib.Bits.{bitAnd, bitOr}
 use lib.Dec.{eqb}
-use lib.ListN.{length, getD, take, drop, replicate, length-map, length-append, length-drop, getD-replicate, List·getD-append}
+use lib.ListN.{length, getD, take, drop, replicate, length-append, length-drop, getD-replicate, List·getD-append}
 use lib.Seq.{paste, getD-take, getD-drop, length-take-le}
 use Rattle.three.specs.Lists.{tabulate, every, adjust, over}
 use Rattle.three.specs.Cube.{Cube, subsumes}
@@ -17,7 +17,7 @@ use Rattle.three.proofs.Lists.{every-ext, length-tabulate, getD-tabulate, tabul
 use Rattle.three.proofs.Pack.{getD-pack}
 use Rattle.three.proofs.Bytewise.{covers, covers-subsumes}
 use Rattle.circuit.specs.declared.Counts.{Counts}
-use Rattle.circuit.specs.Circuit.{Circuit, Latch, next}
+use Rattle.circuit.specs.Circuit.{Circuit, Latch}
 use Rattle.circuit.specs.Table.{circuitOf}
 use Rattle.chain.specs.declared.Progress.{Progress}
 use Rattle.cubes.specs.Run.{hold, differing, due, nextCube, start, Stage, reached, widened, store, stage, cubeAt, Found, at, nowhere, search, closed, full, back, run}
@@ -32,6 +32,8 @@ use Rattle.cubes.proofs.Storing.{records, records-sized, stored-more, stored-cu
 use Rattle.stored.proofs.Searching.{first-at, first-none, first-ext}
 use Rattle.cubes.proofs.Steps.{Searched, searched, found, none-before, none-at-all, run-closes-now, run-goes-on}
 use Rattle.cubes.proofs.Buffered.{latches-sized, cubes-sized}
+use Rattle.circuit.proofs.Pass.{next-sized}
+use Rattle.three.specs.Value.{ternary}
 
 -- ---- a list pasted at the front
 
@@ -162,11 +164,11 @@ module _ (c : Counts) (words : List ℕ) (w : ℕ) (buffer : List ℕ) where
     reached-b b b′ e i h =
         let n : Cube = nextCube circuit (here .cube) in
         let record′ : keptBytes len held (pack (nextCube circuit (unpack size (drop (g .last * len) cubes)))) ≡ pack (hold (here .held) n) =
-        ap (λ (v : Cube). keptBytes len held (pack (nextCube circuit v))) last-cube ∙ kept-record size held (here .held) (g .holding) (pack n) n (next-sized (here .cube)) (λ k l. refl) in
+        ap (λ (v : Cube). keptBytes len held (pack (nextCube circuit v))) last-cube ∙ kept-record size held (here .held) (g .holding) (pack n) n (next-long (here .cube)) (λ k l. refl) in
         ap (λ (l : List ℕ). getD l i 0) e ∙ front-byte b _ len i h (omega (arith, length-kept len held (pack (nextCube circuit (unpack size (drop (g .last * len) cubes)))))) ∙ ap (λ (l : List ℕ). getD l i 0) record′
       where
-        next-sized : (v : Cube) → length (nextCube circuit v) ≡ size
-        next-sized v = unfold nextCube next in length-map (circuit .latches) _ ∙ latches-sized c words w
+        next-long : (v : Cube) → length (nextCube circuit v) ≡ size
+        next-long v = unfold nextCube in next-sized ternary circuit _ _ ∙ latches-sized c words w
 
     module _ (b : List ℕ) (reach : Reached b) where
       -- the byte-wise search is the run's

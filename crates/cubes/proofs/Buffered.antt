@@ -4,7 +4,7 @@ use mathlib.Core.Bool.{true, false, true≢false, false≢true}
 use mathlib.Core.List.{List}
 use Prim.Native.Nat.{ℕ, zero, suc, _+_, _*_, _-_, _<_, _≤_}
 use native.Mathlib.Omega.{arith}
-use lib.ListN.{length, drop, length-map}
+use lib.ListN.{length, drop}
 use Rattle.three.specs.Lists.{over}
 use Rattle.three.specs.Cube.{Cube, merged}
 use Rattle.three.specs.Record.{bytesFor, unpack}
@@ -18,6 +18,8 @@ use Rattle.cubes.proofs.Steps.{found, Ran, stays, closes, ran}
 use Rattle.cubes.proofs.Storing.{records, stored-cube}
 use Rattle.three.proofs.Lists.{length-tabulate}
 use Rattle.cubes.proofs.Wider.{cube-sized}
+use Rattle.circuit.proofs.Pass.{readings-sized}
+use Rattle.three.specs.Value.{ternary}
 
 -- ---- outcomes
 
@@ -70,8 +72,8 @@ module _ (f f′ : ℕ → Cube) (n : ℕ) (same : (k : ℕ) → k < n → f k �
 
 -- a field for each lamp
 pub lamps-counted : (c : Counts) (words : List ℕ) (v : Cube) → length (lampsIn (circuitOf c words) v) ≡ c .lamps
-unfolding lampsIn lamps circuitOf
-lamps-counted c words v = length-map (circuitOf c words .lamps) _ ∙ length-tabulate (c .lamps) _
+unfolding lampsIn circuitOf
+lamps-counted c words v = readings-sized ternary _ _ _ _ ∙ length-tabulate (c .lamps) _
 
 module _ (c : Counts) (words : List ℕ) (w : ℕ) where
   abbrev circuit : Circuit

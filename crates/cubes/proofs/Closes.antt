@@ -9,13 +9,14 @@ use native.Mathlib.Nat.{mul-mod-right, mul-le-mul-left, mul-suc}
 use native.Mathlib.Omega.{arith}
 use lib.ListN.{length, length-map}
 use Rattle.three.specs.Lists.{adjust, Each, empty, also}
-use Rattle.three.specs.Value.{Three, unknown, code}
+use Rattle.three.specs.Value.{Three, unknown, code, ternary}
 use Rattle.three.specs.Cube.{Cube, alike, allows, subsumes, blank}
 use Rattle.three.proofs.Lists.{length-adjust, each-map}
-use Rattle.circuit.specs.Circuit.{Circuit, next}
+use Rattle.circuit.specs.Circuit.{Circuit}
 use Rattle.cubes.specs.Run.{hold, differing, due, nextCube, start, Stage, reached, widened, store, stage, cubeAt, nowhere, Ending, closed, full, run}
 use Rattle.cubes.proofs.Steps.{last-fails, Looked, Ran, begun, stays, closes, goes-on, ran}
 use Rattle.cubes.proofs.Wider.{reached-sized, cube-sized}
+use Rattle.circuit.proofs.Pass.{next-sized}
 
 -- ---- how many latches are held
 
@@ -107,9 +108,9 @@ module _ (c : Circuit) (w : ℕ) where
   -- after a cube that closes nothing
   module _ (k : ℕ) (open-yet : Looked c w k nowhere) where
     more-held : heldCount k < count (heldIf true k)
-    unfolding heldCount widened reached cubeAt nextCube next
+    unfolding heldCount widened reached cubeAt nextCube
     more-held =
-        progress (stage-keeps c w k) (nextCube c (stage c w k .cube)) (length-map (c .latches) _ ∙ sym (cube-sized c w k))
+        progress (stage-keeps c w k) (nextCube c (stage c w k .cube)) (next-sized ternary c _ _ ∙ sym (cube-sized c w k))
         (last-fails open-yet)
 
     some-left : heldCount k < length (c .latches)

@@ -7,13 +7,14 @@ use native.Mathlib.Decide.{decLe}
 use native.Mathlib.Omega.{arith}
 use lib.ListN.{length, length-map}
 use Rattle.three.specs.Lists.{adjust, empty, also}
-use Rattle.three.specs.Value.{Three, unknown, low, high, code}
+use Rattle.three.specs.Value.{Three, unknown, low, high, code, ternary}
 use Rattle.three.specs.Cube.{Cube, alike, allows, subsumes, blank, agree, merged, Holds, any, off, on, _∋_}
 use Rattle.three.proofs.Lists.{and-parts, length-adjust, each-adjust}
 use Rattle.three.proofs.Merge.{length-merged}
-use Rattle.circuit.specs.Circuit.{Circuit, next}
+use Rattle.circuit.specs.Circuit.{Circuit}
 use Rattle.cubes.specs.Run.{hold, nextCube, start, reached, Stage, store, stage, cubeAt, merge}
 use Rattle.cubes.specs.OutcomesInCode.{Inside}
+use Rattle.circuit.proofs.Pass.{next-sized}
 
 -- ---- held latches
 
@@ -91,8 +92,8 @@ module _ (cubes : ℕ → Cube) (size : ℕ) (sized : (k : ℕ) → length (cube
 -- ---- the cubes of a run
 
 pub reached-sized : (c : Circuit) (s : Stage) → length (reached c s) ≡ length (c .latches)
-unfolding reached nextCube next hold
-reached-sized c s = length-adjust _ _ _ ∙ length-map (c .latches) _
+unfolding reached nextCube hold
+reached-sized c s = length-adjust _ _ _ ∙ next-sized ternary c _ _
 
 module _ (c : Circuit) (w : ℕ) where
   pub cube-sized : (k : ℕ) → length (cubeAt c w k) ≡ length (c .latches)
