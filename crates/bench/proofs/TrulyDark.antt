@@ -9,7 +9,7 @@ use lib.ListN.{length}
 use Rattle.three.specs.Lists.{tabulate}
 use Rattle.three.specs.Value.{boolean}
 use Rattle.circuit.specs.declared.Counts.{Counts}
-use Rattle.circuit.specs.Circuit.{Circuit, signed, value, pass, settle, next, lamps}
+use Rattle.circuit.specs.Circuit.{Circuit, signed, value, pass, settle, next, lamps, readings}
 use Rattle.circuit.specs.Table.{circuitOf, gatesFrom}
 use Rattle.text.specs.Outcome.{accepted}
 use Rattle.text.specs.Text.{Content, readText}
@@ -34,7 +34,7 @@ abbrev K-circuit : Circuit
 K-circuit = circuitOf (K-content .counts) (K-content .words)
 
 K-dark : (switches : ℕ → ℕ → Bool) (t : ℕ) → lampsAfter K-circuit switches (resets K-circuit) t ≡ false ∷ []
-unfolding lampsAfter stateAfter settings resets next lamps settle pass value signed boolean circuitOf gatesFrom tabulate
+unfolding lampsAfter stateAfter settings resets readings settle pass value signed boolean circuitOf gatesFrom tabulate
 K-dark switches zero = ap (λ (b : Bool). b ∷ []) (off-with-inverse (switches zero 0))
 K-dark switches (suc t) = ap (λ (b : Bool). b ∷ []) (off-with-inverse (switches (suc t) 0))
 

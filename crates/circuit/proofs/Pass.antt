@@ -4,10 +4,10 @@ use mathlib.Core.List.{List, [], _∷_, _++_, append-assoc}
 use Prim.Native.Nat.{ℕ, _+_, _*_, _/_, _%_, _<_}
 use native.Mathlib.Nat.{add-zero}
 use native.Mathlib.Omega.{arith}
-use lib.ListN.{length, take, length-append}
+use lib.ListN.{length, take, length-append, length-map}
 use lib.Seq.{getD-take, take-append-seam}
 use Rattle.three.specs.Value.{Logic}
-use Rattle.circuit.specs.Circuit.{Gate, signed, value, pass}
+use Rattle.circuit.specs.Circuit.{Circuit, Gate, signed, value, pass, readings, next}
 
 module _ {A : Type 0} (logic : Logic A) where
   -- a literal below 2 n is read from the first n values
@@ -25,3 +25,12 @@ module _ {A : Type 0} (logic : Logic A) where
   unfolding pass
   pass-front vs ws [] = take-append-seam vs ws
   pass-front vs ws (g ∷ gs) = rw append-assoc (pass-front vs _ gs)
+
+  -- what is read from it has a value for each literal
+  module _ (c : Circuit) (switches state : List A) where
+    pub readings-sized : (literals : List ℕ) → length (readings logic c literals switches state) ≡ length literals
+    unfolding readings
+    readings-sized literals = length-map literals _
+
+    pub next-sized : length (next logic c switches state) ≡ length (c .latches)
+    next-sized = readings-sized _ ∙ length-map (c .latches) _

@@ -8,7 +8,7 @@ use Rattle.three.specs.Lists.{Each, empty, also}
 use Rattle.three.specs.Value.{Three, Logic, known, both, inverse, boolean, ternary}
 use Rattle.three.specs.Cube.{Cube, Holds, any, off, on, _∋_}
 use Rattle.three.proofs.Lists.{each-getD, each-append, each-map}
-use Rattle.circuit.specs.Circuit.{Circuit, Latch, Gate, signed, value, pass, settle, next, lamps}
+use Rattle.circuit.specs.Circuit.{Circuit, Gate, signed, value, pass, settle, readings, next}
 
 -- ---- a relation that the operations of two logics keep is kept by a circuit
 
@@ -38,13 +38,12 @@ module _ {A B : Type 0} {R : A → B → Type 0} {l : Logic A} {m : Logic B} (ke
     unfolding settle
     settle-keeps = pass-keeps (c .gates) (also (keeps .false) (each-append in-switches in-state))
 
-    pub next-keeps : Each R (next l c switches state) (next m c r s)
-    unfolding next
-    next-keeps = each-map _ _ (λ (x : Latch). value-keeps settle-keeps (x .next)) (c .latches)
+    readings-keeps : (literals : List ℕ) → Each R (readings l c literals switches state) (readings m c literals r s)
+    unfolding readings
+    readings-keeps = each-map _ _ (value-keeps settle-keeps)
 
-    lamps-keeps : Each R (lamps l c switches state) (lamps m c r s)
-    unfolding lamps
-    lamps-keeps = each-map _ _ (value-keeps settle-keeps) (c .lamps)
+    pub next-keeps : Each R (next l c switches state) (next m c r s)
+    next-keeps = readings-keeps _
 
 -- ---- soundness: a field holds a bit
 
@@ -69,12 +68,10 @@ holds-kept : Keeps Holds ternary boolean
 unfolding ternary boolean
 holds-kept = record { false = off; and = and-holds; invert = invert-holds }
 
--- whatever the switches and the state really are, the tick's next state and lamps hold what really comes
-pub next-sound : (c : Circuit) (switches state : Cube) (r s : List Bool) → switches ∋ r → state ∋ s → next ternary c switches state ∋ next boolean c r s
-next-sound c switches state r s = next-keeps holds-kept c
-
-pub lamps-sound : (c : Circuit) (switches state : Cube) (r s : List Bool) → switches ∋ r → state ∋ s → lamps ternary c switches state ∋ lamps boolean c r s
-lamps-sound c switches state r s = lamps-keeps holds-kept c
+-- whatever the switches and the state really are, what is read from the pass, the next state and the lamps, holds what really comes
+pub readings-sound : (c : Circuit) (literals : List ℕ) (switches state : Cube) (r s : List Bool) → switches ∋ r → state ∋ s
+    → readings ternary c literals switches state ∋ readings boolean c literals r s
+readings-sound c literals switches state r s in-switches in-state = readings-keeps holds-kept c in-switches in-state literals
 
 -- ---- with no X: a field is a bit
 
@@ -109,8 +106,5 @@ known-each empty = refl
 known-each (also e es) = ap₂ _∷_ e (known-each es)
 
 -- switches and a state without X give a next state and lamps without X, and they are the Boolean ones
-pub next-boolean : (c : Circuit) (r s : List Bool) → next ternary c (map known r) (map known s) ≡ map known (next boolean c r s)
-next-boolean c r s = known-each (next-keeps is-kept c (each-known r) (each-known s))
-
-pub lamps-boolean : (c : Circuit) (r s : List Bool) → lamps ternary c (map known r) (map known s) ≡ map known (lamps boolean c r s)
-lamps-boolean c r s = known-each (lamps-keeps is-kept c (each-known r) (each-known s))
+pub readings-boolean : (c : Circuit) (literals : List ℕ) (r s : List Bool) → readings ternary c literals (map known r) (map known s) ≡ map known (readings boolean c literals r s)
+readings-boolean c literals r s = known-each (readings-keeps is-kept c (each-known r) (each-known s) literals)

@@ -38,10 +38,14 @@ module _ {A : Type 0} (logic : Logic A) where
   unfoldable pub settle : Circuit → List A → List A → List A
   settle c switches state = pass (logic .false ∷ (switches ++ state)) (c .gates)
 
+  -- the values of literals after the pass
+  unfoldable pub readings : Circuit → List ℕ → List A → List A → List A
+  readings c literals switches state = map (value (settle c switches state)) literals
+
   -- the next state gives each latch its next literal's value
-  unfoldable pub next : Circuit → List A → List A → List A
-  next c switches state = map (λ (l : Latch). value (settle c switches state) (l .next)) (c .latches)
+  abbrev pub next : Circuit → List A → List A → List A
+  next c switches state = readings c (map (λ (l : Latch). l .next) (c .latches)) switches state
 
   -- lamps are read from the same pass, before the tick
-  unfoldable pub lamps : Circuit → List A → List A → List A
-  lamps c switches state = map (value (settle c switches state)) (c .lamps)
+  abbrev pub lamps : Circuit → List A → List A → List A
+  lamps c switches state = readings c (c .lamps) switches state

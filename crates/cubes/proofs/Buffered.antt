@@ -4,11 +4,11 @@ use mathlib.Core.Bool.{true, false, true≢false, false≢true}
 use mathlib.Core.List.{List}
 use Prim.Native.Nat.{ℕ, zero, suc, _+_, _-_, _<_, _≤_}
 use native.Mathlib.Omega.{arith}
-use lib.ListN.{length, length-map}
+use lib.ListN.{length}
 use Rattle.three.specs.Lists.{over}
 use Rattle.three.specs.Cube.{Cube, merged}
 use Rattle.circuit.specs.declared.Counts.{Counts}
-use Rattle.circuit.specs.Circuit.{Circuit, next, lamps}
+use Rattle.circuit.specs.Circuit.{Circuit, lamps}
 use Rattle.circuit.specs.Table.{circuitOf}
 use Rattle.cubes.specs.Run.{nextCube, lampsIn, cubeAt, Ending, stops, full, run, merge, verdict, settled, mergeFrom}
 use Rattle.cubes.specs.Buffer.{cubeIn, packCubes}
@@ -18,6 +18,8 @@ use Rattle.cubes.proofs.Steps.{found, Ran, stays, closes, ran}
 use Rattle.cubes.proofs.Storing.{stored-cube}
 use Rattle.three.proofs.Lists.{length-tabulate}
 use Rattle.cubes.proofs.Wider.{cube-sized}
+use Rattle.circuit.proofs.Pass.{readings-sized, next-sized}
+use Rattle.three.specs.Value.{ternary}
 
 -- ---- outcomes
 
@@ -79,16 +81,16 @@ unfolding circuitOf
 literals-counted c words = length-tabulate (c .lamps) _
 
 pub lamps-counted : (c : Counts) (words : List ℕ) (v : Cube) → length (lampsIn (circuitOf c words) v) ≡ c .lamps
-unfolding lampsIn lamps
-lamps-counted c words v = length-map (circuitOf c words .lamps) _ ∙ literals-counted c words
+unfolding lampsIn circuitOf
+lamps-counted c words v = readings-sized ternary _ _ _ _ ∙ length-tabulate (c .lamps) _
 
 pub latches-counted : (c : Counts) (words : List ℕ) → length (circuitOf c words .latches) ≡ c .latches
 unfolding circuitOf
 latches-counted c words = length-tabulate (c .latches) _
 
 pub next-counted : (c : Counts) (words : List ℕ) (v : Cube) → length (nextCube (circuitOf c words) v) ≡ c .latches
-unfolding nextCube next
-next-counted c words v = length-map (circuitOf c words .latches) _ ∙ latches-counted c words
+unfolding nextCube
+next-counted c words v = next-sized ternary (circuitOf c words) _ _ ∙ latches-counted c words
 
 module _ (c : Counts) (words : List ℕ) (w : ℕ) where
   abbrev circuit : Circuit

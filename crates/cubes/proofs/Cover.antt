@@ -6,18 +6,19 @@ use mathlib.Core.List.{List}
 use Prim.Native.Nat.{ℕ, zero, suc, _-_, _≤_, _<_}
 use native.Mathlib.Decide.{decLt}
 use native.Mathlib.Omega.{arith}
-use lib.ListN.{length, getD, replicate, length-map}
+use lib.ListN.{length, getD, replicate}
 use Rattle.three.specs.Lists.{tabulate, empty, also}
-use Rattle.three.specs.Value.{unknown, known, boolean}
+use Rattle.three.specs.Value.{unknown, known, boolean, ternary}
 use Rattle.three.specs.Cube.{Cube, subsumes, Holds, any, off, on, _∋_}
 use Rattle.three.proofs.Lists.{each-getD}
 use Rattle.circuit.specs.Circuit.{Circuit, next, lamps}
-use Rattle.circuit.proofs.Sound.{next-sound, lamps-sound}
+use Rattle.circuit.proofs.Sound.{readings-sound}
 use Rattle.cubes.specs.Run.{switchesUnknown, nextCube, lampsIn, start, verdict, settled}
 use Rattle.cubes.specs.OutcomesInCode.{place}
 use Rattle.cubes.specs.Execution.{settings, stateAfter, lampsAfter}
 use Rattle.cubes.proofs.Wider.{subsumes-widens, mergeFrom-widens}
 use Rattle.cubes.proofs.Places.{place-early, place-late, place-below, place-last, place-next}
+use Rattle.circuit.proofs.Pass.{readings-sized}
 
 -- ---- one tick with all switches X
 
@@ -29,15 +30,15 @@ any-switches (suc n) f = also any (any-switches n (λ i. f (suc i)))
 module _ (c : Circuit) (switches : ℕ → ℕ → Bool) (t : ℕ) {cube : Cube} {state : List Bool} (within : cube ∋ state) where
   next-within : nextCube c cube ∋ next boolean c (settings c switches t) state
   unfolding nextCube switchesUnknown settings
-  next-within = next-sound c _ _ _ _ (any-switches (c .inputs) (switches t)) within
+  next-within = readings-sound c _ _ _ _ _ (any-switches (c .inputs) (switches t)) within
 
   lamps-within : lampsIn c cube ∋ lamps boolean c (settings c switches t) state
   unfolding lampsIn switchesUnknown settings
-  lamps-within = lamps-sound c _ _ _ _ (any-switches (c .inputs) (switches t)) within
+  lamps-within = readings-sound c _ _ _ _ _ (any-switches (c .inputs) (switches t)) within
 
 lamps-sized : (c : Circuit) (a : Cube) → length (lampsIn c a) ≡ length (c .lamps)
-unfolding lampsIn lamps
-lamps-sized c a = length-map (c .lamps) _
+unfolding lampsIn
+lamps-sized c a = readings-sized ternary c _ _ _
 
 -- ---- known fields
 

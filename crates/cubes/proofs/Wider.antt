@@ -7,12 +7,13 @@ use native.Mathlib.Decide.{decLe}
 use native.Mathlib.Omega.{arith}
 use lib.ListN.{length, length-map}
 use Rattle.three.specs.Lists.{empty, also}
-use Rattle.three.specs.Value.{Three, unknown, low, high, code}
+use Rattle.three.specs.Value.{Three, unknown, low, high, code, ternary}
 use Rattle.three.specs.Cube.{Cube, alike, allows, subsumes, Holds, any, off, on, _∋_}
 use Rattle.three.proofs.Lists.{and-parts, length-adjust}
 use Rattle.three.proofs.Merge.{length-merged, merged-covers-left, merged-covers-right}
-use Rattle.circuit.specs.Circuit.{Circuit, next}
+use Rattle.circuit.specs.Circuit.{Circuit}
 use Rattle.cubes.specs.Run.{hold, nextCube, start, reached, Stage, store, stage, cubeAt, merge, mergeFrom}
+use Rattle.circuit.proofs.Pass.{next-sized}
 
 -- ---- subsuming cubes
 
@@ -67,8 +68,8 @@ module _ (none : Cube) (cubes : ℕ → Cube) (size : ℕ) (sized : (k : ℕ) �
 -- ---- the cubes of a run
 
 pub reached-sized : (c : Circuit) (s : Stage) → length (reached c s) ≡ length (c .latches)
-unfolding reached nextCube next hold
-reached-sized c s = length-adjust _ _ _ ∙ length-map (c .latches) _
+unfolding reached nextCube hold
+reached-sized c s = length-adjust _ _ _ ∙ next-sized ternary c _ _
 
 module _ (c : Circuit) (w : ℕ) where
   pub cube-sized : (k : ℕ) → length (cubeAt c w k) ≡ length (c .latches)

@@ -1,7 +1,7 @@
 -- One pass for a legal circuit: what the steps of `settle` leave is the circuit's values. Assumes nothing.
 use mathlib.Core.Path.{_≡_, sym, ap, ap₂, _∙_}
-use mathlib.Core.List.{List, _∷_, _++_}
-use Prim.Native.Nat.{ℕ, _+_, _*_, _≤_}
+use mathlib.Core.List.{List, _∷_, _++_, map}
+use Prim.Native.Nat.{ℕ, _+_, _*_, _≤_, _<_}
 use native.Mathlib.Nat.{zero-add, one-mul}
 use native.Mathlib.Omega.{arith}
 use lib.ListN.{length, getD, set, take, length-set, length-append}
@@ -10,12 +10,13 @@ use Rattle.three.specs.Value.{Three, low, decode, ternary}
 use Rattle.three.specs.Cube.{Cube}
 use Rattle.three.proofs.Lists.{length-tabulate, map-tabulate, tabulate-ext}
 use Rattle.circuit.specs.declared.Counts.{Counts}
-use Rattle.circuit.specs.Circuit.{value, pass, settle, next, lamps}
+use Rattle.circuit.specs.Circuit.{value, pass, settle, next, lamps, readings}
 use Rattle.circuit.specs.Table.{top, gatesFrom, circuitOf}
 use Rattle.circuit.specs.RulesInCode.{Legal}
 use Rattle.pass.specs.ValuesInCode.{valuesOf, Working, Holding, Begins, Gateable, Readable, literalValues, passed}
 use Rattle.circuit.proofs.Pass.{value-take, length-pass}
 use Rattle.pass.proofs.Values.{length-values}
+use Rattle.three.specs.Lists.{tabulate}
 
 module _ (c : Counts) (words : List ℕ) (legal : Legal c words) where
   pub legal-gates : Gateable words (2 * c .latches + c .lamps) (1 + c .inputs + c .latches) (c .gates)
@@ -80,14 +81,18 @@ module _ (c : Counts) (words : List ℕ) (legal : Legal c words) where
         sym (value-take ternary (valuesOf table) x (length values) (omega (arith, length-settle)))
         ∙ ap (λ (l : List Three). value ternary l x) (begins .same)
 
+    -- a record of literals from the table is that of the circuit's, if the same literals are the circuit's
+    readings-stored : (at step count : ℕ) {literals : List ℕ} → tabulate count (λ i. getD words (at + step * i) 0) ≡ literals
+        → ((i : ℕ) → i < count → getD words (at + step * i) 0 ≤ top c)
+        → literalValues (valuesOf table) words at step count ≡ readings ternary (circuitOf c words) literals switches state
+    unfolding literalValues readings
+    readings-stored at step count same small =
+        tabulate-ext count _ _ (λ i h. value-begins _ (small i h)) ∙ sym (map-tabulate (value ternary values) count _) ∙ ap (map (value ternary values)) same
+
     pub next-stored : literalValues (valuesOf table) words 0 2 (c .latches) ≡ next ternary (circuitOf c words) switches state
-    unfolding literalValues next circuitOf
-    next-stored =
-        tabulate-ext (c .latches) _ _ (λ i h. rw zero-add (value-begins (getD words (2 * i) 0) (legal .next i h)))
-        ∙ sym (map-tabulate _ (c .latches) _)
+    unfolding circuitOf
+    next-stored = readings-stored 0 2 (c .latches) (tabulate-ext (c .latches) _ _ (λ i h. rw zero-add) ∙ sym (map-tabulate _ (c .latches) _)) (λ i h. rw zero-add (legal .next i h))
 
     pub lamps-stored : literalValues (valuesOf table) words (2 * c .latches) 1 (c .lamps) ≡ lamps ternary (circuitOf c words) switches state
-    unfolding literalValues lamps circuitOf
-    lamps-stored =
-        tabulate-ext (c .lamps) _ _ (λ i h. rw one-mul (value-begins (getD words (2 * c .latches + i) 0) (legal .lamp i h)))
-        ∙ sym (map-tabulate _ (c .lamps) _)
+    unfolding circuitOf
+    lamps-stored = readings-stored (2 * c .latches) 1 (c .lamps) (tabulate-ext (c .lamps) _ _ (λ i h. rw one-mul)) (λ i h. rw one-mul (legal .lamp i h))

@@ -10,7 +10,7 @@ use lib.ListN.{getD}
 use Rattle.three.specs.Lists.{tabulate}
 use Rattle.three.specs.Value.{boolean, unknown, known}
 use Rattle.three.specs.Record.{unpack}
-use Rattle.circuit.specs.Circuit.{signed, value, pass, settle, next, lamps}
+use Rattle.circuit.specs.Circuit.{signed, value, pass, settle, readings}
 use Rattle.circuit.specs.Table.{circuitOf, gatesFrom}
 use Rattle.cubes.specs.declared.RunAnswer.{RunAnswer}
 use Rattle.cubes.specs.Execution.{settings, stateAfter, lampsAfter, resetBit, resets}
@@ -32,12 +32,12 @@ alike-elsewhere t tick other = ap (λ (b : Bool). b ∷ []) (sym (ne-eqb tick t 
 module _ (switches : ℕ → ℕ → Bool) (first : List Bool) (t : ℕ) where
   -- the latch has what the switch was
   latch-follows : stateAfter circuit switches first (suc t) ≡ switches t 0 ∷ []
-  unfolding stateAfter settings next settle pass value signed boolean circuitOf gatesFrom tabulate
+  unfolding stateAfter settings readings settle pass value signed boolean circuitOf gatesFrom tabulate
   latch-follows = refl
 
   -- the lamp is on where the switch was on and is off
   lamp-follows : lampsAfter circuit switches first (suc t) ≡ (switches t 0 && not (switches (suc t) 0)) ∷ []
-  unfolding lampsAfter stateAfter settings next lamps settle pass value signed boolean circuitOf gatesFrom tabulate
+  unfolding lampsAfter stateAfter settings readings settle pass value signed boolean circuitOf gatesFrom tabulate
   lamp-follows = refl
 
 -- after tick t their states differ
@@ -53,7 +53,7 @@ off-with-inverse true = refl
 off-with-inverse false = refl
 
 pub dark-when-constant : (v : Bool) (t : ℕ) → lampsAfter circuit (always v) (resets circuit) t ≡ false ∷ []
-unfolding lampsAfter stateAfter settings lamps settle pass value signed boolean circuitOf gatesFrom tabulate resets resetBit
+unfolding lampsAfter stateAfter settings readings settle pass value signed boolean circuitOf gatesFrom tabulate resets resetBit
 dark-when-constant v zero = refl
 dark-when-constant v (suc t) = lamp-follows (always v) (resets circuit) t ∙ ap (λ (b : Bool). b ∷ []) (off-with-inverse v)
 

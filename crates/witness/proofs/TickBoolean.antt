@@ -3,7 +3,7 @@ use mathlib.Core.Path.{_≡_, sym, ap, ap₂, _∙_}
 use mathlib.Core.Bool.{Bool}
 use mathlib.Core.List.{List, map}
 use Prim.Native.Nat.{ℕ}
-use lib.ListN.{length, length-map}
+use lib.ListN.{length}
 use Rattle.three.specs.Value.{known, boolean, ternary}
 use Rattle.three.specs.Record.{unpack}
 use Rattle.three.proofs.Lists.{length-tabulate}
@@ -13,18 +13,19 @@ use Rattle.circuit.specs.Circuit.{Circuit, next, lamps}
 use Rattle.circuit.specs.Table.{circuitOf}
 use Rattle.tick.specs.Tick.{nextFields, lampFields, TickGiven, Ticked}
 use Rattle.circuit.proofs.Refusals.{accepted-new}
-use Rattle.circuit.proofs.Sound.{next-boolean, lamps-boolean}
+use Rattle.circuit.proofs.Sound.{readings-boolean}
+use Rattle.circuit.proofs.Pass.{next-sized, readings-sized}
 
 -- ---- a field for each latch and for each lamp
 
 module _ (c : Counts) (table state switches : List ℕ) where
-  next-sized : length (nextFields c table state switches) ≡ c .latches
-  unfolding nextFields next circuitOf
-  next-sized = rw (length-map, length-tabulate)
+  next-long : length (nextFields c table state switches) ≡ c .latches
+  unfolding nextFields circuitOf
+  next-long = next-sized ternary _ _ _ ∙ length-tabulate (c .latches) _
 
-  lamps-sized : length (lampFields c table state switches) ≡ c .lamps
-  unfolding lampFields lamps circuitOf
-  lamps-sized = rw (length-map, length-tabulate)
+  lamps-long : length (lampFields c table state switches) ≡ c .lamps
+  unfolding lampFields circuitOf
+  lamps-long = readings-sized ternary _ _ _ _ ∙ length-tabulate (c .lamps) _
 
 -- ---- the results of an accepted tick
 
@@ -37,14 +38,14 @@ module _ (g : TickGiven) {number : ℕ} {next′ lamps′ : List ℕ} (ticked : 
   unfolding nextFields
   next-is-boolean =
       ap (unpack (g .counts .latches)) (ticked .fills-next ∙ sym (accepted-new number _ _ done))
-      ∙ unpack-over (g .counts .latches) (nextFields (g .counts) (g .table) (g .state) (g .switches)) (g .next) (next-sized (g .counts) (g .table) (g .state) (g .switches))
+      ∙ unpack-over (g .counts .latches) (nextFields (g .counts) (g .table) (g .state) (g .switches)) (g .next) (next-long (g .counts) (g .table) (g .state) (g .switches))
       ∙ ap₂ (next ternary circuit) switches-known state-known
-      ∙ next-boolean circuit switches state
+      ∙ readings-boolean circuit _ switches state
 
   pub lamps-are-boolean : unpack (g .counts .lamps) lamps′ ≡ map known (lamps boolean circuit switches state)
   unfolding lampFields
   lamps-are-boolean =
       ap (unpack (g .counts .lamps)) (ticked .fills-lamps ∙ sym (accepted-new number _ _ done))
-      ∙ unpack-over (g .counts .lamps) (lampFields (g .counts) (g .table) (g .state) (g .switches)) (g .lamps) (lamps-sized (g .counts) (g .table) (g .state) (g .switches))
+      ∙ unpack-over (g .counts .lamps) (lampFields (g .counts) (g .table) (g .state) (g .switches)) (g .lamps) (lamps-long (g .counts) (g .table) (g .state) (g .switches))
       ∙ ap₂ (lamps ternary circuit) switches-known state-known
-      ∙ lamps-boolean circuit switches state
+      ∙ readings-boolean circuit _ switches state
