@@ -1,7 +1,7 @@
 -- Laws of a number in a line, and of a line, found at a position of a text. Assumes nothing.
 use mathlib.Core.Path.{_≡_, refl, sym, _∙_, ap}
 use mathlib.Core.List.{List, [], _∷_, _++_, append-assoc}
-use Prim.Native.Nat.{ℕ, suc, _+_, _-_, _≤_, _<_}
+use Prim.Native.Nat.{ℕ, zero, suc, _+_, _-_, _≤_, _<_}
 use native.Mathlib.Numerals.{add-one}
 use native.Mathlib.Omega.{arith}
 use native.Mathlib.Nat.{sub-zero, min-le-left}
@@ -10,53 +10,82 @@ use lib.ListN.{length, getD, set, take, length-set, length-take, List·getD-eq-d
 use lib.Seq.{take-suc-set, getD-take, length-take-le}
 use Rattle.text.specs.Part.{Part, got, ill}
 use Rattle.text.specs.Decimal.{readNumber}
-use Rattle.text.specs.Line.{strip, prepend, splitLine, mostNumbers, readLine}
+use Rattle.text.specs.Line.{newline, space, strip, prepend, splitLine, mostNumbers, readLine}
 use Rattle.lines.specs.declared.ReadLine.{ReadLine}
 use Rattle.lines.specs.declared.ReadNumber.{ReadNumber}
 use Rattle.lines.specs.declared.ReadNumber.the-variants.{Value, NoNumber}
+use Rattle.lines.specs.declared.Ending.{Ending}
+use Rattle.lines.specs.declared.Ending.the-variants.{Newline}
 use Rattle.lines.specs.declared.InLine.{InLine}
 use Rattle.lines.specs.declared.InLine.the-variants.{Last, More, NotInLine}
-use Rattle.lines.specs.LinesInCode.{from, numberPart, NumberFound, linePart, lineEnd, FoundInLine, counted, Shape, numbersOf, LineFound}
-use Rattle.text.proofs.Lines.{strip-none, strip-other, number-ill, number-last, number-more, number-other}
+use Rattle.lines.specs.LinesInCode.{from, numberPart, numberEnd, NumberFound, linePart, lineEnd, endingBytes, stripped, EndingAt, FoundInLine, counted, Shape, numbersOf, LineFound}
+use Rattle.text.proofs.Lines.{strip-front, strip-none, strip-other, number-ill, number-last, number-more, number-other}
 use Rattle.lines.proofs.Numbers.{from-end, from-byte}
 
--- ---- a number in a line: what stands behind it decides
+-- ---- an ending
 
 strip-byte : (b d : ℕ) (t : List ℕ) → (d ≡ b → ⊥) → strip (b ∷ []) (d ∷ t) ≡ ill
 strip-byte b d t h = strip-other b d [] t (ne-eqb b d (λ e. h (sym e)))
 
-module _ (text : List ℕ) (at : ℕ) {n : ReadNumber} (found : NumberFound text (readNumber (from text at)) n) where
-  pub in-line-none : n ≡ NoNumber → FoundInLine text (from text at) NotInLine
-  unfolding numberPart linePart lineEnd
-  in-line-none e = record { reads = λ most. number-ill most _ (found .reads ∙ rw e); within = omega arith }
+module _ (text : List ℕ) (at : ℕ) where
+  pub ending-end : (e : Ending) → at ≡ length text → EndingAt (endingBytes e) text at 0
+  unfolding endingBytes stripped
+  ending-end Newline h = record { reads = rw (from-end text at (omega arith)) (strip-none 10 []); within = omega arith }
 
-  module _ {v end : ℕ} (e : n ≡ Value v end) where
+  module _ (h : at < length text) where
+    pub ending-here : (e : Ending) → getD text at 0 ≡ 10 → EndingAt (endingBytes e) text at 1
+    unfolding endingBytes stripped
+    ending-here Newline b = record { reads = rw (from-byte text at h, b) (strip-front newline _); within = omega arith }
+
+    pub ending-other : (e : Ending) → (getD text at 0 ≡ 10 → ⊥) → EndingAt (endingBytes e) text at 0
+    unfolding endingBytes stripped
+    ending-other Newline b = record { reads = rw (from-byte text at h) (strip-byte 10 _ _ b); within = omega arith }
+
+-- what it says of its length
+pub ending-none : {ending text : List ℕ} {at n : ℕ} → EndingAt ending text at n → n ≡ 0 → strip ending (from text at) ≡ ill
+unfolding stripped
+ending-none f e = f .reads ∙ rw e
+
+pub ending-some : {ending text : List ℕ} {at : ℕ} (n : ℕ) → EndingAt ending text at n → (n ≡ 0 → ⊥) → strip ending (from text at) ≡ got tt (from text (at + n))
+unfolding stripped
+ending-some zero f h = absurd (h refl)
+ending-some (suc n) f h = f .reads
+
+-- ---- a number in a line: what stands behind it decides
+
+pub number-within : {text : List ℕ} {p : Part ℕ} {n : ReadNumber} → NumberFound text p n → {v end : ℕ} → n ≡ Value v end → end ≤ length text
+unfolding numberEnd
+number-within found e = rw e at (found .within)
+
+module _ (ending text : List ℕ) (at : ℕ) {n : ReadNumber} (found : NumberFound text (readNumber (from text at)) n) where
+  pub in-line-none : n ≡ NoNumber → FoundInLine ending text (from text at) NotInLine
+  unfolding numberPart linePart lineEnd
+  in-line-none e = record { reads = λ most. number-ill ending most _ (found .reads ∙ rw e); within = omega arith }
+
+  module _ {v end : ℕ} (e : n ≡ Value v end) {m : ℕ} (behind : EndingAt ending text end m) where
     number-got : readNumber (from text at) ≡ got v (from text end)
     unfolding numberPart
     number-got = found .reads ∙ rw e
 
-    pub in-line-end : length text ≤ end → FoundInLine text (from text at) NotInLine
+    pub in-line-last : (m ≡ 0 → ⊥) → FoundInLine ending text (from text at) (Last v (end + m))
     unfolding linePart lineEnd
-    in-line-end h = record {
-      reads = λ most. number-other most _ number-got (rw (from-end text end h) (strip-none 10 [])) (rw (from-end text end h) (strip-none 32 []));
-      within = omega arith;
-    }
+    in-line-last h = record { reads = λ most. number-last ending most _ number-got (ending-some m behind h); within = behind .within }
 
-    module _ (h : end < length text) where
-      pub in-line-last : getD text end 0 ≡ 10 → FoundInLine text (from text at) (Last v (end + 1))
+    module _ (z : m ≡ 0) where
+      in-line-not : strip space (from text end) ≡ ill → FoundInLine ending text (from text at) NotInLine
       unfolding linePart lineEnd
-      in-line-last b = record { reads = λ most. number-last most _ number-got (from-byte text end h ∙ rw b); within = omega arith }
+      in-line-not s = record { reads = λ most. number-other ending most _ number-got (ending-none behind z) s; within = omega arith }
 
-      pub in-line-more : getD text end 0 ≡ 32 → FoundInLine text (from text at) (More v (end + 1))
-      unfolding linePart lineEnd
-      in-line-more b = record { reads = λ most. number-more most _ number-got (from-byte text end h ∙ rw b); within = omega arith }
+      pub in-line-end : length text ≤ end → FoundInLine ending text (from text at) NotInLine
+      in-line-end h = in-line-not (rw (from-end text end h) (strip-none 32 []))
 
-      pub in-line-other : (getD text end 0 ≡ 10 → ⊥) → (getD text end 0 ≡ 32 → ⊥) → FoundInLine text (from text at) NotInLine
-      unfolding linePart lineEnd
-      in-line-other b d = record {
-        reads = λ most. number-other most _ number-got (rw (from-byte text end h) (strip-byte 10 _ _ b)) (rw (from-byte text end h) (strip-byte 32 _ _ d));
-        within = omega arith;
-      }
+      module _ (h : end < length text) where
+        pub in-line-more : getD text end 0 ≡ 32 → FoundInLine ending text (from text at) (More v (end + 1))
+        unfolding linePart lineEnd
+        in-line-more b = record { reads = λ most. number-more ending most _ number-got (ending-none behind z) (rw (from-byte text end h, b) (strip-front space _)); within = omega arith }
+
+        pub in-line-other : (getD text end 0 ≡ 32 → ⊥) → FoundInLine ending text (from text at) NotInLine
+        in-line-other b = in-line-not (rw (from-byte text end h) (strip-byte 32 _ _ b))
 
 -- ---- a line: k numbers are read, and the next one stands at `next`
 
@@ -75,31 +104,31 @@ unfolding prependAll prepend
 prependAll-prepend ns n (got ms r) = ap (λ l. got l r) (sym (append-assoc ns (n ∷ []) ms))
 prependAll-prepend ns n ill = refl
 
-module _ (text : List ℕ) (at : ℕ) where
+module _ (ending text : List ℕ) (at : ℕ) where
   pub record Pieces (numbers : List ℕ) (next k : ℕ) : Type 0 where
     pub few : k ≤ mostNumbers
     pub long : length numbers ≡ mostNumbers
     pub within : next ≤ length text
-    pub same : readLine (from text at) ≡ prependAll (take k numbers) (splitLine (mostNumbers - k) (from text next))
+    pub same : readLine ending (from text at) ≡ prependAll (take k numbers) (splitLine ending (mostNumbers - k) (from text next))
 
   pub pieces-first : (numbers : List ℕ) → length numbers ≡ mostNumbers → at ≤ length text → Pieces numbers at 0
   pieces-first numbers l h = record { few = omega arith; long = l; within = h; same = rw sub-zero (sym (prependAll-none _)) }
 
   module _ {numbers : List ℕ} {next k : ℕ} (s : Pieces numbers next k) where
     -- no number is the last
-    pub pieces-end : mostNumbers ≤ k → readLine (from text at) ≡ ill
+    pub pieces-end : mostNumbers ≤ k → readLine ending (from text at) ≡ ill
     unfolding splitLine prependAll
     pieces-end e = s .same ∙ let z : mostNumbers - k ≡ 0 = omega arith in rw z
 
-    module _ (h : k < mostNumbers) {n : InLine} (found : FoundInLine text (from text next) n) where
-      here : splitLine (mostNumbers - k) (from text next) ≡ linePart text (mostNumbers - (k + 1)) n
+    module _ (h : k < mostNumbers) {n : InLine} (found : FoundInLine ending text (from text next) n) where
+      here : splitLine ending (mostNumbers - k) (from text next) ≡ linePart ending text (mostNumbers - (k + 1)) n
       here = let z : mostNumbers - k ≡ suc (mostNumbers - (k + 1)) = omega arith in rw z (found .reads _)
 
-      pub pieces-ill : n ≡ NotInLine → readLine (from text at) ≡ ill
+      pub pieces-ill : n ≡ NotInLine → readLine ending (from text at) ≡ ill
       unfolding linePart prependAll
       pieces-ill e = s .same ∙ rw (here, e)
 
-      pub pieces-last : {v end : ℕ} → n ≡ Last v end → LineFound text (readLine (from text at)) (record { count = k + 1; numbers = set numbers k v; next = end })
+      pub pieces-last : {v end : ℕ} → n ≡ Last v end → LineFound text (readLine ending (from text at)) (record { count = k + 1; numbers = set numbers k v; next = end })
       unfolding linePart lineEnd prependAll counted
       pieces-last {v} {end} e = record {
         reads = s .same ∙ rw (here, e, add-one, take-suc-set numbers k v (omega (arith, s .long)));

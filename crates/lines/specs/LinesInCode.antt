@@ -2,16 +2,18 @@
 use mathlib.Core.Path.{_≡_}
 use mathlib.Core.Bool.{true, false}
 use mathlib.Core.List.{List, [], _∷_}
-use Prim.Native.Nat.{ℕ, zero, suc, _-_, _≤_}
+use Prim.Native.Nat.{ℕ, zero, suc, _+_, _-_, _≤_}
 use lib.ListN.{length, take, drop}
 use Rattle.lines.specs.declared.ReadNumber.{ReadNumber}
 use Rattle.lines.specs.declared.ReadNumber.the-variants.{Value, NoNumber}
+use Rattle.lines.specs.declared.Ending.{Ending}
+use Rattle.lines.specs.declared.Ending.the-variants.{Newline}
 use Rattle.lines.specs.declared.InLine.{InLine}
 use Rattle.lines.specs.declared.InLine.the-variants.{Last, More, NotInLine}
 use Rattle.lines.specs.declared.ReadLine.{ReadLine}
 use Rattle.text.specs.Part.{Part, got, ill}
 use Rattle.text.specs.Decimal.{isDigit}
-use Rattle.text.specs.Line.{prepend, splitLine, mostNumbers}
+use Rattle.text.specs.Line.{newline, strip, prepend, splitLine, mostNumbers}
 
 -- the text from a position on
 unfoldable pub from : List ℕ → ℕ → List ℕ
@@ -37,21 +39,35 @@ pub record NumberFound (text : List ℕ) (p : Part ℕ) (n : ReadNumber) : Type 
   pub reads : p ≡ numberPart text n
   pub within : numberEnd n ≤ length text
 
--- a number in a line, and at most `most` more behind it
-unfoldable pub linePart : List ℕ → ℕ → InLine → Part (List ℕ)
-linePart text most (Last n next) = got (n ∷ []) (from text next)
-linePart text most (More n next) = prepend n (splitLine most (from text next))
-linePart text most NotInLine = ill
+-- the ending that the code means
+unfoldable pub endingBytes : Ending → List ℕ
+endingBytes Newline = newline
 
--- the position after that number and the byte behind it
+-- the text behind an ending of so many bytes; there is none of no byte
+unfoldable pub stripped : ℕ → List ℕ → Part (Unit {0})
+stripped zero r = ill
+stripped (suc n) r = got tt r
+
+-- So many bytes of a text are an ending, found at a position
+pub record EndingAt (ending text : List ℕ) (at n : ℕ) : Type 0 where
+  pub reads : strip ending (from text at) ≡ stripped n (from text (at + n))
+  pub within : at + n ≤ length text
+
+-- a number in a line, and at most `most` more behind it
+unfoldable pub linePart : List ℕ → List ℕ → ℕ → InLine → Part (List ℕ)
+linePart ending text most (Last n next) = got (n ∷ []) (from text next)
+linePart ending text most (More n next) = prepend n (splitLine ending most (from text next))
+linePart ending text most NotInLine = ill
+
+-- the position after that number and what stands behind it
 unfoldable pub lineEnd : InLine → ℕ
 lineEnd (Last n next) = next
 lineEnd (More n next) = next
 lineEnd NotInLine = 0
 
 -- A number in a line of a text, found at the front of t
-pub record FoundInLine (text t : List ℕ) (n : InLine) : Type 0 where
-  pub reads : (most : ℕ) → splitLine (suc most) t ≡ linePart text most n
+pub record FoundInLine (ending text t : List ℕ) (n : InLine) : Type 0 where
+  pub reads : (most : ℕ) → splitLine ending (suc most) t ≡ linePart ending text most n
   pub within : lineEnd n ≤ length text
 
 -- so many of these numbers; a line has at least one

@@ -6,7 +6,7 @@ ghost use lib.ListN.{length, getD};
 ghost use Rattle.text.specs.Decimal.{mayGrow, readNumber};
 ghost use Rattle.text.specs.Line.{mostNumbers, readLine};
 ghost use Rattle.text.specs.Part.{ill};
-ghost use Rattle.lines.specs.LinesInCode.{from, leading, NumberFound, FoundInLine, numbersOf, LineFound};
+ghost use Rattle.lines.specs.LinesInCode.{from, leading, NumberFound, endingBytes, EndingAt, FoundInLine, numbersOf, LineFound};
 
 // A number at a position, and the position behind it.
 pub enum ReadNumber {
@@ -14,7 +14,12 @@ pub enum ReadNumber {
     NoNumber,
 }
 
-// The same with the byte behind it, a line end or a space.
+// What ends the lines of a text.
+pub enum Ending {
+    Newline,
+}
+
+// A number with what stands behind it, the line's ending or a space.
 pub enum InLine {
     Last(usize, usize),
     More(usize, usize),
@@ -79,19 +84,34 @@ fn number(text: &[u8], at: usize) -> ReadNumber
     }
 }
 
-// "one space between; each line ends in byte 10"
-fn number_in_line(text: &[u8], at: usize) -> InLine
-    ensures { λ r. ⌜ FoundInLine (now (text .entry)) (from (now (text .entry)) at) r ⌝ }
+// "each line ends in byte 10": the length of an ending at a position, and 0 where there is none.
+pub fn ending_at(text: &[u8], at: usize, ending: Ending) -> usize
+    requires { ⌜ at ≤ length (now text) ⌝ }
+    ensures { λ r. ⌜ EndingAt (endingBytes ending) (now (text .entry)) at r ⌝ }
+{
+    if at == text.len() {
+        return 0;
+    }
+    if text[at] == 10 {
+        return 1;
+    }
+    0
+}
+
+// "one space between"
+fn number_in_line(text: &[u8], at: usize, ending: Ending) -> InLine
+    ensures { λ r. ⌜ FoundInLine (endingBytes ending) (now (text .entry)) (from (now (text .entry)) at) r ⌝ }
 {
     let found = number(text, at);
     let ReadNumber::Value(value, end) = found else {
         return InLine::NotInLine;
     };
+    let length = ending_at(text, end, ending);
+    if length != 0 {
+        return InLine::Last(value, end + length);
+    }
     if end >= text.len() {
         return InLine::NotInLine; // a line without its end
-    }
-    if text[end] == 10 {
-        return InLine::Last(value, end + 1);
     }
     if text[end] == b' ' {
         return InLine::More(value, end + 1);
@@ -110,14 +130,14 @@ pub fn no_line(at: usize) -> ReadLine
     }
 }
 
-pub fn line(text: &[u8], at: usize) -> ReadLine
+pub fn line(text: &[u8], at: usize, ending: Ending) -> ReadLine
     requires { ⌜ at ≤ length (now text) ⌝ }
-    ensures { λ r. ⌜ LineFound (now (text .entry)) (readLine (from (now (text .entry)) at)) r ⌝ }
+    ensures { λ r. ⌜ LineFound (now (text .entry)) (readLine (endingBytes ending) (from (now (text .entry)) at)) r ⌝ }
 {
     let mut numbers = [0usize; MOST_NUMBERS];
     let mut next = at;
     for k in 0..MOST_NUMBERS {
-        let found = number_in_line(text, next);
+        let found = number_in_line(text, next, ending);
         match found {
             InLine::Last(value, end) => {
                 numbers[k] = value;

@@ -1,11 +1,11 @@
 -- The body, line by line: a line found, and the first pass over the lines, turn by turn. Assumes nothing.
 use mathlib.Core.Path.{_≡_, refl, sym, _∙_, ap}
-use mathlib.Core.Bool.{false}
+use mathlib.Core.Bool.{false, true, not}
 use mathlib.Core.List.{List, _∷_}
 use Prim.Native.Nat.{ℕ, zero, suc, _+_, _*_, _-_, _≤_, _<_}
 use native.Mathlib.Nat.{not-suc-le-zero}
 use native.Mathlib.Omega.{arith}
-use borrow.Author.Tests.{ltb-true, ltb-false, eqb-true, eqb-false, eq-eqb, ne-eqb}
+use borrow.Author.Tests.{ltb-true, ltb-false, eqb-true, eqb-false, ne-eqb}
 use lib.Dec.{ltb, eqb}
 use lib.ListN.{length, getD, take}
 use Rattle.three.proofs.Lists.{by-test}
@@ -14,14 +14,16 @@ use Rattle.circuit.specs.Refusal.{Test, refusal}
 use Rattle.text.specs.Part.{Part, got, ill}
 use Rattle.text.specs.Line.{strip, readLine}
 use Rattle.text.specs.Outcome.{Outcome, accepted, refused, after, onward}
-use Rattle.text.specs.Text.{fits, lineTests, ends, Lines, inFront, readLines}
+use Rattle.text.specs.Text.{fits, lineTests, comment, ends, Lines, inFront, readLines}
 use Rattle.lines.specs.declared.ReadLine.{ReadLine}
 use Rattle.reader.specs.declared.Judged.{Judged}
-use Rattle.lines.specs.LinesInCode.{from, counted, numbersOf, LineFound}
+use Rattle.lines.specs.LinesInCode.{from, EndingAt, counted, numbersOf, LineFound}
 use Rattle.reader.specs.ReaderInCode.{left, LinesJudged}
 use Rattle.text.proofs.Outcomes.{accepted-same, refused-accepted}
 use Rattle.text.proofs.Steps.{line-ill, line-stops, line-fits}
 use Rattle.lines.proofs.Numbers.{from-end, from-byte}
+use Rattle.lines.proofs.Finding.{ending-none, ending-some}
+use Rattle.text.proofs.Lines.{strip-other, strip-same}
 use Rattle.text.proofs.Tables.{linesFrom, lines-first, lines-next, lines-last}
 use Rattle.reader.proofs.Judging.{line-count}
 
@@ -84,80 +86,76 @@ no-numbers (latch own) = refl
 no-numbers lamp = refl
 no-numbers (gate own) = refl
 
-pub line-judged : (text : List ℕ) (at most : ℕ) (k : Kind) (l : ReadLine) (n : ℕ) → LineFound text (readLine (from text at)) l → n ≡ refusal (lineTests most k (numbersOf l))
-    → LinesJudged text at (lineTests most) (λ ks. k ∷ ks) (record { number = n; next = l .next })
-line-judged text at most k l n f e = record {
+pub line-judged : (ending text : List ℕ) (at most : ℕ) (k : Kind) (l : ReadLine) (n : ℕ) → LineFound text (readLine ending (from text at)) l → n ≡ refusal (lineTests most k (numbersOf l))
+    → LinesJudged ending text at (lineTests most) (λ ks. k ∷ ks) (record { number = n; next = l .next })
+line-judged ending text at most k l n f e = record {
   says = λ ks. by-test (ltb 0 (l .count))
       (λ h. on ks n e (line-got l f (ltb-true 0 (l .count) h)))
       (λ h. let z : l .count ≡ 0 = omega (arith, ltb-false 0 (l .count) h) in
       let four : n ≡ 4 = e ∙ sym (line-count most k l (f .shape) (rw (z, no-numbers k))) in
-      left-refused (line-ill (lineTests most) k ks _ (line-ill-formed l f z)) ∙ sym (after-refused n _ (λ q. omega arith) ∙ rw four));
+      left-refused (line-ill ending (lineTests most) k ks _ (line-ill-formed l f z)) ∙ sym (after-refused n _ (λ q. omega arith) ∙ rw four));
   within = f .within;
 }
   where
-    on : (ks : List Kind) (n : ℕ) → n ≡ refusal (lineTests most k (numbersOf l)) → readLine (from text at) ≡ got (numbersOf l) (from text (l .next))
-        → left (readLines (lineTests most) (k ∷ ks) (from text at)) ≡ after n (left (readLines (lineTests most) ks (from text (l .next))))
-    on ks zero h g = ap left (line-fits (lineTests most) k ks _ g h) ∙ left-front _ _ ∙ sym (after-none _ refl)
-    on ks (suc n) h g = left-refused (line-stops (lineTests most) k ks _ g h) ∙ sym (after-refused (suc n) _ (λ q. omega arith))
+    on : (ks : List Kind) (n : ℕ) → n ≡ refusal (lineTests most k (numbersOf l)) → readLine ending (from text at) ≡ got (numbersOf l) (from text (l .next))
+        → left (readLines ending (lineTests most) (k ∷ ks) (from text at)) ≡ after n (left (readLines ending (lineTests most) ks (from text (l .next))))
+    on ks zero h g = ap left (line-fits ending (lineTests most) k ks _ g h) ∙ left-front _ _ ∙ sym (after-none _ refl)
+    on ks (suc n) h g = left-refused (line-stops ending (lineTests most) k ks _ g h) ∙ sym (after-refused (suc n) _ (λ q. omega arith))
 
 -- ---- the first pass: the end of the text
 
-module _ (text : List ℕ) (at : ℕ) where
-  pub ended-short : at ≤ length text → length text - at < 2 → eqb (length text - at) 0 ≡ ends (from text at)
-  unfolding ends strip
-  ended-short p h = by-test (ltb at (length text))
-      (λ e. let q = ltb-true at (length text) e in
-      let one : length text - at ≡ 1 = omega arith in
-      rw (one, from-byte text at q, from-end text (at + 1) (omega arith)) (by-test (eqb 99 (getD text at 0)) (λ b. rw (ends, strip, b)) (λ b. rw (ends, strip, b))))
-      (λ e. let q = ltb-false at (length text) e in let z : length text - at ≡ 0 = omega arith in rw (z, from-end text at q))
+module _ (ending text : List ℕ) (at : ℕ) where
+  pub ended-last : at ≡ length text → true ≡ ends ending (from text at)
+  unfolding ends
+  ended-last h = rw (from-end text at (omega arith))
 
-  module _ (h : at + 1 < length text) where
-    pub ended-other : (getD text at 0 ≡ 99 → ⊥) → false ≡ ends (from text at)
-    unfolding ends strip
-    ended-other n = rw (from-byte text at (omega arith)) (let b = ne-eqb 99 (getD text at 0) (λ e. n (sym e)) in rw (ends, strip, b))
+  module _ (h : at < length text) where
+    pub ended-other : (getD text at 0 ≡ 99 → ⊥) → false ≡ ends ending (from text at)
+    unfolding ends
+    ended-other n = rw (from-byte text at h) (sym (rw (ends, strip-other 99 _ ending _ (ne-eqb 99 (getD text at 0) (λ e. n (sym e))))))
 
-    pub ended-comment : getD text at 0 ≡ 99 → eqb (getD text (at + 1) 0) 10 ≡ ends (from text at)
-    unfolding ends strip
-    ended-comment e =
-        let x : ℕ = getD text (at + 1) 0 in
-        rw (from-byte text at (omega arith), from-byte text (at + 1) h, e) (by-test (eqb x 10)
-        (λ b. let d = eq-eqb 10 x (sym (eqb-true x 10 b)) in rw (b, ends, strip, d))
-        (λ b. let d = ne-eqb 10 x (λ q. eqb-false x 10 b (sym q)) in rw (b, ends, strip, d)))
+    pub ended-comment : {n : ℕ} → getD text at 0 ≡ 99 → EndingAt ending text (at + 1) n → not (eqb n 0) ≡ ends ending (from text at)
+    unfolding ends
+    ended-comment {n} e f =
+        let same : strip (comment ending) (99 ∷ from text (at + 1)) ≡ strip ending (from text (at + 1)) = strip-same 99 99 ending _ refl in
+        rw (from-byte text at h, e) (by-test (eqb n 0)
+        (λ b. rw (b, ends, same, ending-none f (eqb-true n 0 b)))
+        (λ b. rw (b, ends, same, ending-some n f (eqb-false n 0 b))))
 
 -- ---- the first pass: of n lines of one kind i are judged, and the next one stands at `next`
 
-module _ (text : List ℕ) (at : ℕ) (tests : Kind → List ℕ → List Test) (kind : ℕ → Kind) (own n : ℕ) where
+module _ (ending text : List ℕ) (at : ℕ) (tests : Kind → List ℕ → List Test) (kind : ℕ → Kind) (own n : ℕ) where
   pub record Turns (next i : ℕ) : Type 0 where
     pub few : i ≤ n
     pub within : next ≤ length text
-    pub same : (ks : List Kind) → left (readLines tests (several kind own n ks) (from text at)) ≡ left (readLines tests (linesFrom kind own n ks i) (from text next))
+    pub same : (ks : List Kind) → left (readLines ending tests (several kind own n ks) (from text at)) ≡ left (readLines ending tests (linesFrom kind own n ks i) (from text next))
 
   pub turns-first : at ≤ length text → Turns at 0
-  turns-first h = record { few = omega arith; within = h; same = λ ks. ap (λ l. left (readLines tests l (from text at))) (lines-first kind own n ks) }
+  turns-first h = record { few = omega arith; within = h; same = λ ks. ap (λ l. left (readLines ending tests l (from text at))) (lines-first kind own n ks) }
 
   module _ {next i : ℕ} (s : Turns next i) where
-    module _ (h : i < n) {j : Judged} (f : LinesJudged text next tests (λ ks. kind (own + 2 * i) ∷ ks) j) where
-      line-says : (ks : List Kind) → left (readLines tests (several kind own n ks) (from text at)) ≡ after (j .number) (left (readLines tests (linesFrom kind own n ks (i + 1)) (from text (j .next))))
+    module _ (h : i < n) {j : Judged} (f : LinesJudged ending text next tests (λ ks. kind (own + 2 * i) ∷ ks) j) where
+      line-says : (ks : List Kind) → left (readLines ending tests (several kind own n ks) (from text at)) ≡ after (j .number) (left (readLines ending tests (linesFrom kind own n ks (i + 1)) (from text (j .next))))
       line-says ks = s .same ks ∙ rw (lines-next kind own n ks i h) (f .says _)
 
-      pub turns-stop : (j .number ≡ 0 → ⊥) → LinesJudged text at tests (several kind own n) j
+      pub turns-stop : (j .number ≡ 0 → ⊥) → LinesJudged ending text at tests (several kind own n) j
       turns-stop z = record { says = λ ks. line-says ks ∙ after-refused _ _ z ∙ sym (after-refused _ _ z); within = f .within }
 
       pub turns-next : j .number ≡ 0 → Turns (j .next) (i + 1)
       turns-next z = record { few = omega arith; within = f .within; same = λ ks. line-says ks ∙ after-none _ z }
 
-    pub turns-last : n ≤ i → LinesJudged text at tests (several kind own n) (record { number = 0; next = next })
+    pub turns-last : n ≤ i → LinesJudged ending text at tests (several kind own n) (record { number = 0; next = next })
     turns-last h = record {
-      says = λ ks. s .same ks ∙ ap (λ l. left (readLines tests l (from text next))) (lines-last kind own n ks i h) ∙ sym (after-none _ refl);
+      says = λ ks. s .same ks ∙ ap (λ l. left (readLines ending tests l (from text next))) (lines-last kind own n ks i h) ∙ sym (after-none _ refl);
       within = s .within;
     }
 
 -- ---- the first pass: lines, and others behind them; the first refusal decides
 
-module _ {text : List ℕ} {at : ℕ} {tests : Kind → List ℕ → List Test} {lines : List Kind → List Kind} (others : List Kind → List Kind) {j : Judged}
-    (a : LinesJudged text at tests lines j) where
-  pub judged-stop : (j .number ≡ 0 → ⊥) → LinesJudged text at tests (λ ks. lines (others ks)) j
+module _ {ending text : List ℕ} {at : ℕ} {tests : Kind → List ℕ → List Test} {lines : List Kind → List Kind} (others : List Kind → List Kind) {j : Judged}
+    (a : LinesJudged ending text at tests lines j) where
+  pub judged-stop : (j .number ≡ 0 → ⊥) → LinesJudged ending text at tests (λ ks. lines (others ks)) j
   judged-stop z = record { says = λ ks. a .says _ ∙ after-refused _ _ z ∙ sym (after-refused _ _ z); within = a .within }
 
-  pub judged-then : j .number ≡ 0 → {i : Judged} → LinesJudged text (j .next) tests others i → LinesJudged text at tests (λ ks. lines (others ks)) i
+  pub judged-then : j .number ≡ 0 → {i : Judged} → LinesJudged ending text (j .next) tests others i → LinesJudged ending text at tests (λ ks. lines (others ks)) i
   judged-then z b = record { says = λ ks. a .says _ ∙ after-none _ z ∙ b .says ks; within = b .within }

@@ -56,30 +56,30 @@ words-small most (gate own) ns h p (suc (suc i)) = omega arith
 
 -- ---- a line, and those behind it
 
-module _ (text : List ℕ) (c : Counts) (k : Kind) (ks : List Kind) {at p : ℕ} {table : List ℕ} (f : Fillable text c (stand (k ∷ ks) at p table))
-    {l : ReadLine} (g : LineFound text (readLine (from text at)) l) where
+module _ (ending text : List ℕ) (c : Counts) (k : Kind) (ks : List Kind) {at p : ℕ} {table : List ℕ} (f : Fillable ending text c (stand (k ∷ ks) at p table))
+    {l : ReadLine} (g : LineFound text (readLine ending (from text at)) l) where
   record Turn : Type 0 where
     passes : Passed (lineTests (top c) k (numbersOf l))
-    accepts : readLines (lineTests (top c)) ks (from text (l .next)) ≡ accepted (linesOf c ks (from text (l .next)))
-    gives : words k (numbersOf l) ++ bodyWords c ks (from text (l .next)) ≡ bodyWords c (k ∷ ks) (from text at)
+    accepts : readLines ending (lineTests (top c)) ks (from text (l .next)) ≡ accepted (linesOf ending c ks (from text (l .next)))
+    gives : words k (numbersOf l) ++ bodyWords ending c ks (from text (l .next)) ≡ bodyWords ending c (k ∷ ks) (from text at)
 
   turn : Turn
   unfolding linesOf leaves inFront
   turn =
-      let r : LineRead (lineTests (top c)) k ks (from text at) (linesOf c (k ∷ ks) (from text at)) = line-accepted (lineTests (top c)) k ks _ (line-numbered (top c) k) (f .accepts) in
+      let r : LineRead ending (lineTests (top c)) k ks (from text at) (linesOf ending c (k ∷ ks) (from text at)) = line-accepted ending (lineTests (top c)) k ks _ (line-numbered (top c) k) (f .accepts) in
       let q = line-read l g (r .split) in
-      let on : readLines (lineTests (top c)) ks (from text (l .next)) ≡ accepted (r .others) = rw (q .1) (r .on) in
-      let same : linesOf c ks (from text (l .next)) ≡ r .others = ap (leaves (λ (l : Lines). l) _) on in
+      let on : readLines ending (lineTests (top c)) ks (from text (l .next)) ≡ accepted (r .others) = rw (q .1) (r .on) in
+      let same : linesOf ending c ks (from text (l .next)) ≡ r .others = ap (leaves (λ (l : Lines). l) _) on in
       record { passes = rw (q .0) (r .passes); accepts = on ∙ ap accepted (sym same); gives = rw (q .0) (ap (λ (o : Lines). words k (r .numbers) ++ o .words) same ∙ ap (λ (o : Lines). o .words) (r .gives)) }
 
-  turn-long : length (words k (numbersOf l)) + length (bodyWords c ks (from text (l .next))) ≡ length (bodyWords c (k ∷ ks) (from text at))
+  turn-long : length (words k (numbersOf l)) + length (bodyWords ending c ks (from text (l .next))) ≡ length (bodyWords ending c (k ∷ ks) (from text at))
   turn-long = let t : Turn = turn in sym (length-append (words k (numbersOf l)) _) ∙ ap length (t .gives)
 
   line-fits : WordsFit (words k (numbersOf l)) p table
   line-fits = let t : Turn = turn in
       record { small = words-small (top c) k (numbersOf l) (let b = f .bounded in omega arith) (t .passes); room = omega (arith, turn-long, f .room) }
 
-  line-filled : {table′ : List ℕ} → table′ ≡ sets table p (words k (numbersOf l)) → Filled text c (stand (k ∷ ks) at p table) (stand ks (l .next) (p + length (words k (numbersOf l))) table′)
+  line-filled : {table′ : List ℕ} → table′ ≡ sets table p (words k (numbersOf l)) → Filled ending text c (stand (k ∷ ks) at p table) (stand ks (l .next) (p + length (words k (numbersOf l))) table′)
   line-filled {table′} e =
       let t : Turn = turn in
       let long : length table′ ≡ length table = ap length e ∙ length-sets table p (words k (numbersOf l)) in
@@ -91,14 +91,14 @@ module _ (text : List ℕ) (c : Counts) (k : Kind) (ks : List Kind) {at p : ℕ}
 
 -- ---- a pass, and another behind it
 
-pub filled-none : {text : List ℕ} {c : Counts} {s : Stand} → Fillable text c s → Filled text c s s
+pub filled-none : {ending text : List ℕ} {c : Counts} {s : Stand} → Fillable ending text c s → Filled ending text c s s
 filled-none f = record { left = f; long = refl; same = refl }
 
-pub filled-then : {text : List ℕ} {c : Counts} {s t u : Stand} → Filled text c s t → Filled text c t u → Filled text c s u
+pub filled-then : {ending text : List ℕ} {c : Counts} {s t u : Stand} → Filled ending text c s t → Filled ending text c t u → Filled ending text c s u
 filled-then a b = record { left = b .left; long = b .long ∙ a .long; same = b .same ∙ a .same }
 
-pub filled-whole : {text : List ℕ} {c : Counts} {ks : List Kind} {at next p : ℕ} {table table′ : List ℕ} → Fillable text c (stand ks at 0 table)
-    → Filled text c (stand ks at 0 table) (stand [] next p table′) → table′ ≡ over (bodyWords c ks (from text at)) table
+pub filled-whole : {ending text : List ℕ} {c : Counts} {ks : List Kind} {at next p : ℕ} {table table′ : List ℕ} → Fillable ending text c (stand ks at 0 table)
+    → Filled ending text c (stand ks at 0 table) (stand [] next p table′) → table′ ≡ over (bodyWords ending c ks (from text at)) table
 unfolding readLines
 filled-whole {p = p} {table = table} {table′ = table′} f a =
     let none : [] ≡ _ = ap (λ (l : Lines). l .words) (accepted-same (a .left .accepts)) in
@@ -106,25 +106,25 @@ filled-whole {p = p} {table = table} {table′ = table′} f a =
 
 -- ---- lines of one kind, of which i are stored
 
-pub record Filling (text : List ℕ) (c : Counts) (kind : ℕ → Kind) (own n : ℕ) (ks : List Kind) (s : Stand) (next p i : ℕ) (table : List ℕ) : Type 0 where
+pub record Filling (ending text : List ℕ) (c : Counts) (kind : ℕ → Kind) (own n : ℕ) (ks : List Kind) (s : Stand) (next p i : ℕ) (table : List ℕ) : Type 0 where
   pub few : i ≤ n
-  pub on : Filled text c s (stand (linesFrom kind own n ks i) next p table)
+  pub on : Filled ending text c s (stand (linesFrom kind own n ks i) next p table)
 
-module _ {text : List ℕ} {c : Counts} {kind : ℕ → Kind} {own n : ℕ} {ks : List Kind} where
-  pub filling-first : {at p q : ℕ} {table : List ℕ} → Fillable text c (stand (several kind own n ks) at p table) → q ≡ p
-      → Filling text c kind own n ks (stand (several kind own n ks) at p table) at q 0 table
+module _ {ending text : List ℕ} {c : Counts} {kind : ℕ → Kind} {own n : ℕ} {ks : List Kind} where
+  pub filling-first : {at p q : ℕ} {table : List ℕ} → Fillable ending text c (stand (several kind own n ks) at p table) → q ≡ p
+      → Filling ending text c kind own n ks (stand (several kind own n ks) at p table) at q 0 table
   filling-first {at} {p} {q} {table} f e = record { few = omega arith; on = rw (e, ← (lines-first kind own n ks)) (filled-none f) }
 
-  module _ {s : Stand} {next p i : ℕ} {table : List ℕ} (f : Filling text c kind own n ks s next p i table) where
-    module _ (h : i < n) {l : ReadLine} (g : LineFound text (readLine (from text next)) l) {ws : List ℕ} (e : ws ≡ words (kind (own + 2 * i)) (numbersOf l)) where
-      here : Filled text c s (stand (kind (own + 2 * i) ∷ linesFrom kind own n ks (i + 1)) next p table)
+  module _ {s : Stand} {next p i : ℕ} {table : List ℕ} (f : Filling ending text c kind own n ks s next p i table) where
+    module _ (h : i < n) {l : ReadLine} (g : LineFound text (readLine ending (from text next)) l) {ws : List ℕ} (e : ws ≡ words (kind (own + 2 * i)) (numbersOf l)) where
+      here : Filled ending text c s (stand (kind (own + 2 * i) ∷ linesFrom kind own n ks (i + 1)) next p table)
       here = rw (lines-next kind own n ks i h) at (f .on)
 
       pub filling-fits : WordsFit ws p table
-      filling-fits = rw e (line-fits text c _ _ (here .left) g)
+      filling-fits = rw e (line-fits _ text c _ _ (here .left) g)
 
-      pub filling-next : {table′ : List ℕ} {q : ℕ} → table′ ≡ sets table p ws → q ≡ p + length ws → Filling text c kind own n ks s (l .next) q (i + 1) table′
-      filling-next {table′} {q} t r = record { few = omega arith; on = rw (r, e) (filled-then here (line-filled text c _ _ (here .left) g (t ∙ ap (sets table p) e))) }
+      pub filling-next : {table′ : List ℕ} {q : ℕ} → table′ ≡ sets table p ws → q ≡ p + length ws → Filling ending text c kind own n ks s (l .next) q (i + 1) table′
+      filling-next {table′} {q} t r = record { few = omega arith; on = rw (r, e) (filled-then here (line-filled _ text c _ _ (here .left) g (t ∙ ap (sets table p) e))) }
 
-    pub filling-last : {q : ℕ} → n ≤ i → q ≡ p → Filled text c s (stand ks next q table)
+    pub filling-last : {q : ℕ} → n ≤ i → q ≡ p → Filled ending text c s (stand ks next q table)
     filling-last h e = rw (e, ← (lines-last kind own n ks i h)) (f .on)

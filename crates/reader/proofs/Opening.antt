@@ -31,12 +31,12 @@ module _ (text : List ℕ) where
       (λ h. absurd (false≢true (opened-short (ltb-true (length text) 4 h) ∙ sym e ∙ t)))
       (ltb-false (length text) 4)
 
-  pub header-none : {b : Bool} → b ≡ opened text → b ≡ false → header text ≡ ill
+  pub header-none : (ending : List ℕ) {b : Bool} → b ≡ opened text → b ≡ false → header ending text ≡ ill
   unfolding opened header
-  header-none e f = by-part (strip magic text) (λ u r g. absurd (true≢false (sym (rw (opened, g) at e) ∙ f))) (λ g. rw (header, g))
+  header-none ending e f = by-part (strip magic text) (λ u r g. absurd (true≢false (sym (rw (opened, g) at e) ∙ f))) (λ g. rw (header, g))
 
-  pub header-line : {b : Bool} → b ≡ opened text → b ≡ true → header text ≡ readLine (from text 4)
+  pub header-line : (ending : List ℕ) {b : Bool} → b ≡ opened text → b ≡ true → header ending text ≡ readLine ending (from text 4)
   unfolding header from
-  header-line e t =
+  header-line ending e t =
       let h = opened-long e t in
       rw (header, strip-alike magic text h (opened-alike h ∙ sym e ∙ t))

@@ -15,7 +15,7 @@ use Rattle.reader.specs.declared.Judgement.the-variants.{Refused, Body}
 use Rattle.text.specs.Part.{got, ill}
 use Rattle.text.specs.Line.{strip}
 use Rattle.text.specs.Outcome.{Outcome, accepted, refused, after, onward, leaves}
-use Rattle.text.specs.Text.{magic, lineTests, Lines, readLines, readText}
+use Rattle.text.specs.Text.{magic, lineTests, Lines, readLines, readEnded}
 use Rattle.lines.specs.LinesInCode.{from}
 
 -- the text opens with `aag` and a space
@@ -29,8 +29,8 @@ unfoldable pub left : Outcome Lines → Outcome (List ℕ)
 left o = onward (λ l. l .rest) o
 
 -- Lines judged that stand in front of any others: their refusal, or else the others decide
-pub record LinesJudged (text : List ℕ) (at : ℕ) (tests : Kind → List ℕ → List Test) (lines : List Kind → List Kind) (j : Judged) : Type 0 where
-  pub says : (ks : List Kind) → left (readLines tests (lines ks) (from text at)) ≡ after (j .number) (left (readLines tests ks (from text (j .next))))
+pub record LinesJudged (ending text : List ℕ) (at : ℕ) (tests : Kind → List ℕ → List Test) (lines : List Kind → List Kind) (j : Judged) : Type 0 where
+  pub says : (ks : List Kind) → left (readLines ending tests (lines ks) (from text at)) ≡ after (j .number) (left (readLines ending tests ks (from text (j .next))))
   pub within : j .next ≤ length text
 
 -- the lines of a circuit in front of any others
@@ -41,23 +41,23 @@ kindsThen c ks =
     (several (λ own. lamp) 0 (c .lamps) (several gate (2 + 2 * c .inputs + 2 * c .latches) (c .gates) ks)))
 
 -- what lines of a text are read as, and their words
-unfoldable pub linesOf : Counts → List Kind → List ℕ → Lines
-linesOf c ks t = leaves (λ l. l) (record { words = []; rest = [] }) (readLines (lineTests (top c)) ks t)
+unfoldable pub linesOf : List ℕ → Counts → List Kind → List ℕ → Lines
+linesOf ending c ks t = leaves (λ l. l) (record { words = []; rest = [] }) (readLines ending (lineTests (top c)) ks t)
 
-abbrev pub bodyWords : Counts → List Kind → List ℕ → List ℕ
-bodyWords c ks t = linesOf c ks t .words
+abbrev pub bodyWords : List ℕ → Counts → List Kind → List ℕ → List ℕ
+bodyWords ending c ks t = linesOf ending c ks t .words
 
 -- The text is read, and its body starts at `at`
-pub record BodyAt (text : List ℕ) (c : Counts) (at : ℕ) : Type 0 where
+pub record BodyAt (ending text : List ℕ) (c : Counts) (at : ℕ) : Type 0 where
   pub bounded : Bounded c
   pub within : at ≤ length text
-  pub accepts : readLines (lineTests (top c)) (kinds c) (from text at) ≡ accepted (linesOf c (kinds c) (from text at))
-  pub reads : readText text ≡ accepted (record { counts = c; words = bodyWords c (kinds c) (from text at) })
+  pub accepts : readLines ending (lineTests (top c)) (kinds c) (from text at) ≡ accepted (linesOf ending c (kinds c) (from text at))
+  pub reads : readEnded ending text ≡ accepted (record { counts = c; words = bodyWords ending c (kinds c) (from text at) })
 
 -- A text judged
-abbrev pub TextJudged : List ℕ → Judgement → Type 0
-TextJudged text (Refused n) = readText text ≡ refused n
-TextJudged text (Body c at) = BodyAt text c at
+abbrev pub TextJudged : List ℕ → List ℕ → Judgement → Type 0
+TextJudged ending text (Refused n) = readEnded ending text ≡ refused n
+TextJudged ending text (Body c at) = BodyAt ending text c at
 
 -- ---- the second pass
 
@@ -91,18 +91,18 @@ abbrev pub stand : List Kind → ℕ → ℕ → List ℕ → Stand
 stand ks at p table = record { lines = ks; at = at; word = p; table = table }
 
 -- the words left
-abbrev pub wordsLeft : List ℕ → Counts → Stand → List ℕ
-wordsLeft text c s = bodyWords c (s .lines) (from text (s .at))
+abbrev pub wordsLeft : List ℕ → List ℕ → Counts → Stand → List ℕ
+wordsLeft ending text c s = bodyWords ending c (s .lines) (from text (s .at))
 
 -- Nothing refuses the lines left, and there is room for their words
-pub record Fillable (text : List ℕ) (c : Counts) (s : Stand) : Type 0 where
+pub record Fillable (ending text : List ℕ) (c : Counts) (s : Stand) : Type 0 where
   pub bounded : Bounded c
   pub within : s .at ≤ length text
-  pub accepts : readLines (lineTests (top c)) (s .lines) (from text (s .at)) ≡ accepted (linesOf c (s .lines) (from text (s .at)))
-  pub room : s .word + length (wordsLeft text c s) ≤ length (s .table)
+  pub accepts : readLines ending (lineTests (top c)) (s .lines) (from text (s .at)) ≡ accepted (linesOf ending c (s .lines) (from text (s .at)))
+  pub room : s .word + length (wordsLeft ending text c s) ≤ length (s .table)
 
 -- The pass has come from s to t: what is left at t makes the table what it becomes from s
-pub record Filled (text : List ℕ) (c : Counts) (s t : Stand) : Type 0 where
-  pub left : Fillable text c t
+pub record Filled (ending text : List ℕ) (c : Counts) (s t : Stand) : Type 0 where
+  pub left : Fillable ending text c t
   pub long : length (t .table) ≡ length (s .table)
-  pub same : sets (t .table) (t .word) (wordsLeft text c t) ≡ sets (s .table) (s .word) (wordsLeft text c s)
+  pub same : sets (t .table) (t .word) (wordsLeft ending text c t) ≡ sets (s .table) (s .word) (wordsLeft ending text c s)

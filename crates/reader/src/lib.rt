@@ -1,5 +1,6 @@
 // The reader of a circuit's text (document 01, Text).
 use circuit::Counts;
+use lines::Ending;
 use lines::ReadLine;
 use text::GATE_LINE;
 use text::INPUT_LINE;
@@ -17,7 +18,7 @@ ghost use Rattle.circuit.specs.Table.{top, input, latch, lamp, gate, several, k
 ghost use Rattle.circuit.specs.RulesInCode.{Bounded};
 ghost use Rattle.text.specs.Text.{lineTests, ends, header as firstLine, countsOf, headerTests};
 ghost use Rattle.text.specs.Calls.{zeros, Reading};
-ghost use Rattle.lines.specs.LinesInCode.{from, Shape, numbersOf, LineFound};
+ghost use Rattle.lines.specs.LinesInCode.{from, endingBytes, Shape, numbersOf, LineFound};
 ghost use Rattle.reader.specs.ReaderInCode.{opened, LinesJudged, kindsThen, TextJudged, pairOf, WordsFit, bodyWords, stand, latchesOn, lampsOn, gatesOn, Fillable, Filled};
 ghost use Rattle.text.specs.KindsInCode.{coded};
 
@@ -38,13 +39,13 @@ fn opens(text: &[u8]) -> bool
     true
 }
 
-fn header(text: &[u8]) -> ReadLine
-    ensures { λ r. ⌜ LineFound (now (text .entry)) (firstLine (now (text .entry))) r ⌝ }
+fn header(text: &[u8], ending: Ending) -> ReadLine
+    ensures { λ r. ⌜ LineFound (now (text .entry)) (firstLine (endingBytes ending) (now (text .entry))) r ⌝ }
 {
     if !opens(text) {
         return lines::no_line(0);
     }
-    lines::line(text, 4)
+    lines::line(text, 4, ending)
 }
 
 // I, L, O and A of the first line.
@@ -176,11 +177,11 @@ struct Judged {
     next: usize,
 }
 
-fn judge_line(text: &[u8], at: usize, kind: u8, own: usize, most: usize) -> Judged
+fn judge_line(text: &[u8], at: usize, ending: Ending, kind: u8, own: usize, most: usize) -> Judged
     requires { ⌜ at ≤ length (now text) ⌝ }
-    ensures { λ r. ⌜ LinesJudged (now (text .entry)) at (lineTests most) (λ ks. coded kind own ∷ ks) r ⌝ }
+    ensures { λ r. ⌜ LinesJudged (endingBytes ending) (now (text .entry)) at (lineTests most) (λ ks. coded kind own ∷ ks) r ⌝ }
 {
-    let found = lines::line(text, at);
+    let found = lines::line(text, at, ending);
     Judged {
         number: line_refusal(kind, own, most, found),
         next: found.next,
@@ -188,13 +189,21 @@ fn judge_line(text: &[u8], at: usize, kind: u8, own: usize, most: usize) -> Judg
 }
 
 // Lines of one kind, the first with the literal `own`.
-fn judge_lines(text: &[u8], at: usize, kind: u8, own: usize, count: usize, most: usize) -> Judged
+fn judge_lines(
+    text: &[u8],
+    at: usize,
+    ending: Ending,
+    kind: u8,
+    own: usize,
+    count: usize,
+    most: usize,
+) -> Judged
     requires { ⌜ (at ≤ length (now text)) × (own + 2 * count ≤ 10000) ⌝ }
-    ensures { λ r. ⌜ LinesJudged (now (text .entry)) at (lineTests most) (several (coded kind) own count) r ⌝ }
+    ensures { λ r. ⌜ LinesJudged (endingBytes ending) (now (text .entry)) at (lineTests most) (several (coded kind) own count) r ⌝ }
 {
     let mut next = at;
     for i in 0..count {
-        let judged = judge_line(text, next, kind, own + 2 * i, most);
+        let judged = judge_line(text, next, ending, kind, own + 2 * i, most);
         if judged.number != 0 {
             return judged;
         }
@@ -207,41 +216,56 @@ fn judge_lines(text: &[u8], at: usize, kind: u8, own: usize, count: usize, most:
 }
 
 // "the end of the text, or a line that is just `c`"
-fn ended(text: &[u8], at: usize) -> bool
+fn ended(text: &[u8], at: usize, ending: Ending) -> bool
     requires { ⌜ at ≤ length (now text) ⌝ }
-    ensures { λ r. ⌜ r ≡ ends (from (now (text .entry)) at) ⌝ }
+    ensures { λ r. ⌜ r ≡ ends (endingBytes ending) (from (now (text .entry)) at) ⌝ }
 {
-    let rest = text.len() - at;
-    if rest < 2 {
-        return rest == 0;
+    if at == text.len() {
+        return true;
     }
     if text[at] != b'c' {
         return false;
     }
-    text[at + 1] == 10
+    lines::ending_at(text, at + 1, ending) != 0
 }
 
 // "one line for each input, latch, lamp and gate, in that order"
-fn judge_body(text: &[u8], at: usize, counts: Counts) -> Judged
+fn judge_body(text: &[u8], at: usize, ending: Ending, counts: Counts) -> Judged
     requires { ⌜ Bounded counts × (at ≤ length (now text)) ⌝ }
-    ensures { λ r. ⌜ LinesJudged (now (text .entry)) at (lineTests (top counts)) (kindsThen counts) r ⌝ }
+    ensures { λ r. ⌜ LinesJudged (endingBytes ending) (now (text .entry)) at (lineTests (top counts)) (kindsThen counts) r ⌝ }
 {
     let latch = 2 + 2 * counts.inputs;
     let gate = latch + 2 * counts.latches;
     let most = 2 * (counts.inputs + counts.latches + counts.gates) + 1;
-    let inputs = judge_lines(text, at, INPUT_LINE, 2, counts.inputs, most);
+    let inputs = judge_lines(text, at, ending, INPUT_LINE, 2, counts.inputs, most);
     if inputs.number != 0 {
         return inputs;
     }
-    let latches = judge_lines(text, inputs.next, LATCH_LINE, latch, counts.latches, most);
+    let latches = judge_lines(
+        text,
+        inputs.next,
+        ending,
+        LATCH_LINE,
+        latch,
+        counts.latches,
+        most,
+    );
     if latches.number != 0 {
         return latches;
     }
-    let lamps = judge_lines(text, latches.next, LAMP_LINE, 0, counts.lamps, most);
+    let lamps = judge_lines(text, latches.next, ending, LAMP_LINE, 0, counts.lamps, most);
     if lamps.number != 0 {
         return lamps;
     }
-    judge_lines(text, lamps.next, GATE_LINE, gate, counts.gates, most)
+    judge_lines(
+        text,
+        lamps.next,
+        ending,
+        GATE_LINE,
+        gate,
+        counts.gates,
+        most,
+    )
 }
 
 // The first refusal of 1 to 9; or what the first line says, and where a body starts that nothing refuses.
@@ -251,23 +275,23 @@ enum Judgement {
 }
 
 // "Reader: 1, 2, 3, then line by line (4, 5, 6, then 7 or 8), 9": once over the text, and nothing is written.
-fn judge(text: &[u8]) -> Judgement
-    ensures { λ r. ⌜ TextJudged (now (text .entry)) r ⌝ }
+fn judge(text: &[u8], ending: Ending) -> Judgement
+    ensures { λ r. ⌜ TextJudged (endingBytes ending) (now (text .entry)) r ⌝ }
 {
     if text.len() > MOST_TEXT {
         return Judgement::Refused(1);
     }
-    let first = header(text);
+    let first = header(text, ending);
     let in_header = header_refusal(first);
     if in_header != 0 {
         return Judgement::Refused(in_header);
     }
     let counts = counts_of(first);
-    let body = judge_body(text, first.next, counts);
+    let body = judge_body(text, first.next, ending, counts);
     if body.number != 0 {
         return Judgement::Refused(body.number);
     }
-    if !ended(text, body.next) {
+    if !ended(text, body.next, ending) {
         return Judgement::Refused(9);
     }
     Judgement::Body(counts, first.next)
@@ -283,26 +307,26 @@ fn fill_pair(found: ReadLine, table: &mut [u16], p: usize)
 }
 
 // The lines of the inputs have no words; the position behind them.
-fn skip_inputs(text: &[u8], at: usize, counts: Counts) -> usize
+fn skip_inputs(text: &[u8], at: usize, ending: Ending, counts: Counts) -> usize
     requires { ⌜ at ≤ length (now text) ⌝ }
-    ensures { λ r. ⌜ ((table : List ℕ) → Fillable (now (text .entry)) counts (stand (kinds counts) at 0 table) → Filled (now (text .entry)) counts (stand (kinds counts) at 0 table) (stand (latchesOn counts) r 0 table)) ⌝ }
+    ensures { λ r. ⌜ ((table : List ℕ) → Fillable (endingBytes ending) (now (text .entry)) counts (stand (kinds counts) at 0 table) → Filled (endingBytes ending) (now (text .entry)) counts (stand (kinds counts) at 0 table) (stand (latchesOn counts) r 0 table)) ⌝ }
 {
     let mut next = at;
     for i in 0..counts.inputs {
-        let found = lines::line(text, next);
+        let found = lines::line(text, next, ending);
         next = found.next;
     }
     next
 }
 
 // "for each latch its next literal and its reset"; the position behind the lines.
-fn fill_latches(text: &[u8], at: usize, counts: Counts, table: &mut [u16]) -> usize
-    requires { ⌜ Fillable (now text) counts (stand (latchesOn counts) at 0 (now table)) ⌝ }
-    ensures { λ r. ⌜ Filled (now (text .entry)) counts (stand (latchesOn counts) at 0 (now (table .entry))) (stand (lampsOn counts) r (2 * counts .latches) (now (table .exit))) ⌝ }
+fn fill_latches(text: &[u8], at: usize, ending: Ending, counts: Counts, table: &mut [u16]) -> usize
+    requires { ⌜ Fillable (endingBytes ending) (now text) counts (stand (latchesOn counts) at 0 (now table)) ⌝ }
+    ensures { λ r. ⌜ Filled (endingBytes ending) (now (text .entry)) counts (stand (latchesOn counts) at 0 (now (table .entry))) (stand (lampsOn counts) r (2 * counts .latches) (now (table .exit))) ⌝ }
 {
     let mut next = at;
     for i in 0..counts.latches {
-        let found = lines::line(text, next);
+        let found = lines::line(text, next, ending);
         fill_pair(found, table, 2 * i);
         next = found.next;
     }
@@ -310,14 +334,14 @@ fn fill_latches(text: &[u8], at: usize, counts: Counts, table: &mut [u16]) -> us
 }
 
 // "then the lamp literals"; the position behind the lines.
-fn fill_lamps(text: &[u8], at: usize, counts: Counts, table: &mut [u16]) -> usize
-    requires { ⌜ Fillable (now text) counts (stand (lampsOn counts) at (2 * counts .latches) (now table)) ⌝ }
-    ensures { λ r. ⌜ Filled (now (text .entry)) counts (stand (lampsOn counts) at (2 * counts .latches) (now (table .entry))) (stand (gatesOn counts) r (2 * counts .latches + counts .lamps) (now (table .exit))) ⌝ }
+fn fill_lamps(text: &[u8], at: usize, ending: Ending, counts: Counts, table: &mut [u16]) -> usize
+    requires { ⌜ Fillable (endingBytes ending) (now text) counts (stand (lampsOn counts) at (2 * counts .latches) (now table)) ⌝ }
+    ensures { λ r. ⌜ Filled (endingBytes ending) (now (text .entry)) counts (stand (lampsOn counts) at (2 * counts .latches) (now (table .entry))) (stand (gatesOn counts) r (2 * counts .latches + counts .lamps) (now (table .exit))) ⌝ }
 {
     let first = 2 * counts.latches;
     let mut next = at;
     for i in 0..counts.lamps {
-        let found = lines::line(text, next);
+        let found = lines::line(text, next, ending);
         table[first + i] = lines::entry(found, 0) as u16;
         next = found.next;
     }
@@ -325,14 +349,14 @@ fn fill_lamps(text: &[u8], at: usize, counts: Counts, table: &mut [u16]) -> usiz
 }
 
 // "then two operands a gate"; the position behind the lines.
-fn fill_gates(text: &[u8], at: usize, counts: Counts, table: &mut [u16]) -> usize
-    requires { ⌜ Fillable (now text) counts (stand (gatesOn counts) at (2 * counts .latches + counts .lamps) (now table)) ⌝ }
-    ensures { λ r. ⌜ Filled (now (text .entry)) counts (stand (gatesOn counts) at (2 * counts .latches + counts .lamps) (now (table .entry))) (stand [] r (2 * counts .latches + counts .lamps + 2 * counts .gates) (now (table .exit))) ⌝ }
+fn fill_gates(text: &[u8], at: usize, ending: Ending, counts: Counts, table: &mut [u16]) -> usize
+    requires { ⌜ Fillable (endingBytes ending) (now text) counts (stand (gatesOn counts) at (2 * counts .latches + counts .lamps) (now table)) ⌝ }
+    ensures { λ r. ⌜ Filled (endingBytes ending) (now (text .entry)) counts (stand (gatesOn counts) at (2 * counts .latches + counts .lamps) (now (table .entry))) (stand [] r (2 * counts .latches + counts .lamps + 2 * counts .gates) (now (table .exit))) ⌝ }
 {
     let first = 2 * counts.latches + counts.lamps;
     let mut next = at;
     for i in 0..counts.gates {
-        let found = lines::line(text, next);
+        let found = lines::line(text, next, ending);
         fill_pair(found, table, first + 2 * i);
         next = found.next;
     }
@@ -340,14 +364,14 @@ fn fill_gates(text: &[u8], at: usize, counts: Counts, table: &mut [u16]) -> usiz
 }
 
 // The words of a body that nothing refuses, into the front of the table.
-fn fill(text: &[u8], at: usize, counts: Counts, table: &mut [u16])
-    requires { ⌜ Fillable (now text) counts (stand (kinds counts) at 0 (now table)) ⌝ }
-    ensures { λ _. ⌜ now (table .exit) ≡ over (bodyWords counts (kinds counts) (from (now (text .entry)) at)) (now (table .entry)) ⌝ }
+fn fill(text: &[u8], at: usize, ending: Ending, counts: Counts, table: &mut [u16])
+    requires { ⌜ Fillable (endingBytes ending) (now text) counts (stand (kinds counts) at 0 (now table)) ⌝ }
+    ensures { λ _. ⌜ now (table .exit) ≡ over (bodyWords (endingBytes ending) counts (kinds counts) (from (now (text .entry)) at)) (now (table .entry)) ⌝ }
 {
-    let latches = skip_inputs(text, at, counts);
-    let lamps = fill_latches(text, latches, counts, table);
-    let gates = fill_lamps(text, lamps, counts, table);
-    fill_gates(text, gates, counts, table);
+    let latches = skip_inputs(text, at, ending, counts);
+    let lamps = fill_latches(text, latches, ending, counts, table);
+    let gates = fill_lamps(text, lamps, ending, counts, table);
+    fill_gates(text, gates, ending, counts, table);
 }
 
 // The answer of the reader: the number of a refusal, or 0 with I, L, O and A.
@@ -375,7 +399,8 @@ fn refused(number: u32) -> ReadAnswer
 pub fn read(text: &[u8], table: &mut [u16]) -> ReadAnswer
     ensures { λ r. ⌜ Reading (now (text .entry)) (now (table .entry)) (r .number) (r .counts) (now (table .exit)) ⌝ }
 {
-    let judgement = judge(text);
+    let ending = Ending::Newline; // "each line ends in byte 10"
+    let judgement = judge(text, ending);
     match judgement {
         Judgement::Refused(number) => {
             return refused(number);
@@ -384,7 +409,7 @@ pub fn read(text: &[u8], table: &mut [u16]) -> ReadAnswer
             if table.len() < table::table_length(counts) {
                 return refused(10);
             }
-            fill(text, body, counts, table);
+            fill(text, body, ending, counts, table);
             return ReadAnswer {
                 number: 0,
                 counts: counts,

@@ -11,7 +11,7 @@ use Rattle.circuit.specs.Refusal.{refusal, allHold, Passed}
 use Rattle.circuit.specs.Table.{variables, top, ceilingTests, Kind, input, latch, lamp, gate, several, kinds, width, rowTests, tableTests, wordTests, circuitTests}
 use Rattle.circuit.specs.RulesInCode.{Bounded}
 use Rattle.text.specs.Decimal.{digits, decimal}
-use Rattle.text.specs.Line.{lineText}
+use Rattle.text.specs.Line.{lineText, endedLine}
 use Rattle.text.specs.Text.{shown, numbers, headNumbers, writeBody, writeText}
 use Rattle.circuit.proofs.Refusals.{passed-append}
 use Rattle.text.proofs.Decimals.{length-below, length-monotone}
@@ -32,12 +32,12 @@ rooms (k ∷ ks) = room k + rooms ks
 -- ---- lines that keep the rules stay within their room
 
 latch-room : (own next reset : ℕ) → next ≤ 8191 → reset ≤ 1 → length (lineText (own ∷ next ∷ shown reset)) ≤ length (decimal own) + 8
-unfolding lineText shown
+unfolding endedLine shown
 latch-room own next zero p q = simp length-append (omega (arith, length-below 3 next (omega arith)))
 latch-room own next (suc r) p q = simp length-append (omega (arith, length-below 3 next (omega arith), length-below 0 (suc r) (omega arith)))
 
 line-room : (most : ℕ) (k : Kind) (ws : List ℕ) → most ≤ 8191 → Passed (rowTests most k ws) → length (lineText (numbers k ws)) ≤ room k
-unfolding lineText numbers room rowTests
+unfolding endedLine numbers room rowTests
 line-room most (input own) ws m p = simp length-append (omega arith)
 line-room most (latch own) ws m p = latch-room own (getD ws 0 0) (getD ws 1 0) (omega (arith, leb-true)) (omega (arith, leb-true))
 line-room most lamp ws m p = simp length-append (omega (arith, length-below 3 (getD ws 0 0) (omega (arith, leb-true))))
@@ -78,7 +78,7 @@ rooms-kinds c b =
     (rooms-several gate (λ x y h. omega (arith, length-monotone x y h)) _ _ (c .gates) 3327 _ _ (omega arith) (b .gates) (omega arith))))
 
 pub text-bound : (c : Counts) (table : List ℕ) → 0 ≡ refusal (circuitTests c table) → length (writeText c table) ≤ 57122
-unfolding writeText headNumbers lineText
+unfolding writeText headNumbers endedLine
 text-bound c table e =
     let k : Taken c table = taken c table e in
     let b : Bounded c = k .bounded in
@@ -111,5 +111,5 @@ pub longestTable : List ℕ
 longestTable = longestWords (kinds ceiling)
 
 pub bound-reached : (0 ≡ refusal (circuitTests ceiling longestTable)) × (length (writeText ceiling longestTable) ≡ 57122)
-unfolding refusal circuitTests ceilingTests wordTests allHold tableTests rowTests width ceiling kinds several longest longestWords longestTable writeText headNumbers writeBody numbers shown lineText decimal digits
+unfolding refusal circuitTests ceilingTests wordTests allHold tableTests rowTests width ceiling kinds several longest longestWords longestTable writeText headNumbers writeBody numbers shown endedLine decimal digits
 bound-reached = (refl, refl)

@@ -17,13 +17,13 @@ use Rattle.circuit.specs.Refusal.{refusal, Passed}
 use Rattle.circuit.specs.Table.{variables, top, tableLength, Kind, input, latch, lamp, gate, kinds, width, rowTests, tableTests, circuitTests}
 use Rattle.circuit.specs.RulesInCode.{Bounded}
 use Rattle.text.specs.Part.{got, ill}
-use Rattle.text.specs.Line.{lineText, strip, mostNumbers}
+use Rattle.text.specs.Line.{newline, endedLine, strip, mostNumbers}
 use Rattle.text.specs.Outcome.{accepted, onward}
-use Rattle.text.specs.Text.{magic, headNumbers, fits, owns, words, lineTests, comment, ends, Lines, inFront, readLines, header, countsOf, headerTests, Content, readText}
+use Rattle.text.specs.Text.{magic, headNumbers, fits, owns, words, lineTests, comment, ends, Lines, inFront, readLines, header, countsOf, headerTests, Content, readEnded, readText}
 use Rattle.text.proofs.Parts.{by-part}
 use Rattle.circuit.proofs.Refusals.{passed-append, passed-refusal}
 use Rattle.text.proofs.Outcomes.{append-passed, accepted-same}
-use Rattle.text.proofs.Lines.{front-strip, Short, line-split, split-line}
+use Rattle.text.proofs.Lines.{front-strip, Short, line-split, split-line, strip-front, Proper, newline-proper}
 use Rattle.text.proofs.Steps.{end-fits, line-fits, LineRead, line-accepted, header-fits, header-accepted, line-numbered}
 use Rattle.text.proofs.Tables.{size, size-kinds, due, Owned, owned-kinds, Taken, taken, taken-refusal}
 use Rattle.circuit.proofs.Legality.{passed-bounded, bounded-passed}
@@ -37,25 +37,25 @@ pub data Spelled (ws : List ℕ) : Kind → List ℕ → List ℕ → Type 0 whe
   gateLine : {own left right : ℕ} → Spelled ws (gate own) (left ∷ right ∷ ws) (own ∷ left ∷ right ∷ [])
 
 -- A text with one line for each kind, in order, and these words; then the text r
-pub data Says (r : List ℕ) : List Kind → List ℕ → List ℕ → Type 0 where
-  stop : Says r [] [] r
-  line : {k : Kind} {ks : List Kind} {all ws ns t : List ℕ} → Spelled ws k all ns → Says r ks ws t → Says r (k ∷ ks) all (lineText ns ++ t)
+pub data Says (ending r : List ℕ) : List Kind → List ℕ → List ℕ → Type 0 where
+  stop : Says ending r [] [] r
+  line : {k : Kind} {ks : List Kind} {all ws ns t : List ℕ} → Spelled ws k all ns → Says ending r ks ws t → Says ending r (k ∷ ks) all (endedLine ending ns ++ t)
 
 -- The end of a text, or the comment line and anything
-pub data Closing : List ℕ → Type 0 where
-  done : Closing []
-  noted : {t : List ℕ} → Closing (comment ++ t)
+pub data Closing (ending : List ℕ) : List ℕ → Type 0 where
+  done : Closing ending []
+  noted : (t : List ℕ) → Closing ending (comment ending ++ t)
 
--- A text of a circuit
-pub record Describes (t : List ℕ) (c : Content) : Type 0 where
+-- A text of a circuit, whose lines have this ending
+pub record Describes (ending t : List ℕ) (c : Content) : Type 0 where
   pub short : length t ≤ 60000
   pub legal : 0 ≡ refusal (circuitTests (c .counts) (c .words))
   pub whole : length (c .words) ≡ tableLength (c .counts)
   pub body : List ℕ
-  pub text : t ≡ magic ++ (lineText (headNumbers (c .counts)) ++ body)
+  pub text : t ≡ magic ++ (endedLine ending (headNumbers (c .counts)) ++ body)
   pub rest : List ℕ
-  pub says : Says rest (kinds (c .counts)) (c .words) body
-  pub closes : Closing rest
+  pub says : Says ending rest (kinds (c .counts)) (c .words) body
+  pub closes : Closing ending rest
 
 -- ---- a line's words at the front of the table
 
@@ -92,35 +92,35 @@ seen m d (latchPlain {own = own}) p = record { shape = omega (arith, leb-true); 
 seen m d lampLine p = record { shape = omega (arith, leb-true); passes = (refl, (refl, p)); gives = refl }
 seen m d (gateLine {own = own}) p = record { shape = omega (arith, leb-true); passes = (refl, (eq-eqb own own refl, p)); gives = refl }
 
-says-read : (most : ℕ) {ks : List Kind} {r ws t : List ℕ}
-    → most < 100000 → Owned most ks → Says r ks ws t → Passed (tableTests most ks ws) → readLines (lineTests most) ks t ≡ accepted (record { words = ws; rest = r })
+says-read : {ending : List ℕ} → Proper ending → (most : ℕ) {ks : List Kind} {r ws t : List ℕ}
+    → most < 100000 → Owned most ks → Says ending r ks ws t → Passed (tableTests most ks ws) → readLines ending (lineTests most) ks t ≡ accepted (record { words = ws; rest = r })
 unfolding readLines inFront onward tableTests
-says-read most m o stop p = refl
-says-read most m o (line {k = k} {ks = ks} {all = all} {ws = ws} {ns = ns} {t = t} s r) p =
+says-read e most m o stop p = refl
+says-read {ending} e most m o (line {k = k} {ks = ks} {all = all} {ws = ws} {ns = ns} {t = t} s r) p =
     let q = passed-append (rowTests most k all) (tableTests most ks (drop (width k) all)) p in
     let v : Seen most k all ws ns = seen m (o .0) s (q .0) in
-    line-fits (lineTests most) k ks _ (line-split mostNumbers ns t (v .shape .0) (v .shape .1) (v .shape .2)) (passed-refusal _ (v .passes))
-    ∙ rw (says-read most m (o .1) r (rw (← (v .gives), drop-words) at (q .1)), v .gives)
+    line-fits ending (lineTests most) k ks _ (line-split ending e mostNumbers ns t (v .shape .0) (v .shape .1) (v .shape .2)) (passed-refusal _ (v .passes))
+    ∙ rw (says-read e most m (o .1) r (rw (← (v .gives), drop-words) at (q .1)), v .gives)
 
-closing-ends : {r : List ℕ} → Closing r → ends r ≡ true
-unfolding ends strip
-closing-ends done = refl
-closing-ends noted = refl
+closing-ends : (ending : List ℕ) {r : List ℕ} → Closing ending r → ends ending r ≡ true
+unfolding ends
+closing-ends ending done = refl
+closing-ends ending (noted t) = rw (ends, strip-front (comment ending) t)
 
 -- the first line's numbers
 head-fits : (c : Counts) → Bounded c → Short (headNumbers c) × Passed (headerTests (headNumbers c))
 unfolding headNumbers headerTests countsOf
 head-fits c b = (omega arith, (refl, (eq-eqb (variables c) (variables c) refl, bounded-passed c b)))
 
-pub described : {t : List ℕ} {c : Content} → Describes t c → readText t ≡ accepted c
+described-read : {ending t : List ℕ} {c : Content} → Proper ending → Describes ending t c → readEnded ending t ≡ accepted c
 unfolding header strip headNumbers countsOf onward
-described {t} {c} d =
+described-read {ending} {t} {c} proper d =
     let n : Counts = c .counts in
     let k : Taken n (c .words) = taken n (c .words) (d .legal) in
     let b = k .bounded in
     let f = head-fits n b in
-    let e : header t ≡ got (headNumbers n) (d .body) = rw (d .text) (line-split mostNumbers (headNumbers n) (d .body) (omega arith) (omega arith) (f .0)) in
-    header-fits t (d .short) e (passed-refusal _ (f .1)) ∙ rw (end-fits (says-read (top n) (omega arith) (owned-kinds n) (d .says) (k .rules)) (closing-ends (d .closes)))
+    let e : header ending t ≡ got (headNumbers n) (d .body) = rw (d .text) (line-split ending proper mostNumbers (headNumbers n) (d .body) (omega arith) (omega arith) (f .0)) in
+    header-fits ending t (d .short) e (passed-refusal _ (f .1)) ∙ rw (end-fits ending (says-read proper (top n) (omega arith) (owned-kinds n) (d .says) (k .rules)) (closing-ends ending (d .closes)))
 
 -- ---- what is read describes a circuit
 
@@ -142,60 +142,70 @@ spelled lamp ns ws f o = subst⁻¹ (Spelled ws lamp _) (listed 1 ns (eqb-true (
 spelled (gate own) ns ws f o = subst⁻¹ (Spelled ws (gate own) _) (listed 3 ns (eqb-true (length ns) 3 f) ∙ rw (eqb-true (getD ns 0 0) own o)) gateLine
 
 -- a proper end
-ends-closing : (t : List ℕ) → ends t ≡ true → Closing t
+ends-closing : (ending t : List ℕ) → ends ending t ≡ true → Closing ending t
 unfolding ends
-ends-closing [] e = done
-ends-closing (b ∷ t) e = by-part (strip comment (b ∷ t)) (λ u r f. rw (front-strip comment (b ∷ t) r f) noted) (λ f. absurd (false≢true (rw (f, ends) at e)))
+ends-closing ending [] e = done
+ends-closing ending (b ∷ t) e = by-part (strip (comment ending) (b ∷ t)) (λ u r f. rw (front-strip (comment ending) (b ∷ t) r f) (noted r)) (λ f. absurd (false≢true (rw (f, ends) at e)))
 
 -- Lines that are read as l
-record Body (most : ℕ) (ks : List Kind) (t : List ℕ) (l : Lines) : Type 0 where
-  says : Says (l .rest) ks (l .words) t
+record Body (ending : List ℕ) (most : ℕ) (ks : List Kind) (t : List ℕ) (l : Lines) : Type 0 where
+  says : Says ending (l .rest) ks (l .words) t
   sized : length (l .words) ≡ size ks
   rules : Passed (tableTests most ks (l .words))
 
-body-line : {most : ℕ} {k : Kind} {ks : List Kind} {t : List ℕ} {l : Lines} (f : LineRead (lineTests most) k ks t l) → Body most ks (f .behind) (f .others) → Body most (k ∷ ks) t l
+body-line : {ending : List ℕ} {most : ℕ} {k : Kind} {ks : List Kind} {t : List ℕ} {l : Lines} (f : LineRead ending (lineTests most) k ks t l) → Body ending most ks (f .behind) (f .others) → Body ending most (k ∷ ks) t l
 unfolding lineTests inFront size tableTests
-body-line {most} {k} {ks} f b =
+body-line {ending} {most} {k} {ks} f b =
     let ns : List ℕ = f .numbers in
     let p = f .passes in
-    rw (split-line mostNumbers (f .split) .text, ← (f .gives)) (record {
+    rw (split-line ending mostNumbers (f .split) .text, ← (f .gives)) (record {
       says = line (spelled k ns (f .others .words) (p .0) (p .1 .0)) (b .says);
       sized = simp (length-append, length-words) (omega arith);
       rules = rw (rules-words, drop-words) (append-passed (rowTests most k (words k ns)) (tableTests most ks (f .others .words)) (p .1 .1) (b .rules));
     })
 
-read-body : (most : ℕ) (ks : List Kind) (t : List ℕ) {l : Lines} → readLines (lineTests most) ks t ≡ accepted l → Body most ks t l
+read-body : (ending : List ℕ) (most : ℕ) (ks : List Kind) (t : List ℕ) {l : Lines} → readLines ending (lineTests most) ks t ≡ accepted l → Body ending most ks t l
 unfolding readLines size tableTests
-read-body most [] t a = rw (← (accepted-same a)) (record { says = stop; sized = refl; rules = tt })
-read-body most (k ∷ ks) t a = let f = line-accepted (lineTests most) k ks t (line-numbered most k) a in body-line f (read-body most ks (f .behind) (f .on))
+read-body ending most [] t a = rw (← (accepted-same a)) (record { says = stop; sized = refl; rules = tt })
+read-body ending most (k ∷ ks) t a = let f = line-accepted ending (lineTests most) k ks t (line-numbered most k) a in body-line f (read-body ending most ks (f .behind) (f .on))
 
 -- the first line is made of the counts in it
 head-counts : (ns : List ℕ) → Passed (headerTests ns) → ns ≡ headNumbers (countsOf ns)
 unfolding headerTests countsOf headNumbers tabulate
 head-counts ns p = listed 5 ns (eqb-true (length ns) 5 (p .0)) ∙ rw (eqb-true (getD ns 0 0) (variables (countsOf ns)) (p .1 .0))
 
-header-text : (t : List ℕ) {ns r : List ℕ} → header t ≡ got ns r → t ≡ magic ++ (lineText ns ++ r)
+header-text : (ending t : List ℕ) {ns r : List ℕ} → header ending t ≡ got ns r → t ≡ magic ++ (endedLine ending ns ++ r)
 unfolding header
-header-text t a = by-part (strip magic t)
-    (λ u s e. front-strip magic t s e ∙ ap (λ x. magic ++ x) (split-line mostNumbers (rw (header, e) at a) .text))
+header-text ending t a = by-part (strip magic t)
+    (λ u s e. front-strip magic t s e ∙ ap (λ x. magic ++ x) (split-line ending mostNumbers (rw (header, e) at a) .text))
     (λ e. let z : ill ≡ got _ _ = rw (header, e) at a in cc)
 
-pub describes : (t : List ℕ) {c : Content} → readText t ≡ accepted c → Describes t c
+read-describes : (ending t : List ℕ) {c : Content} → readEnded ending t ≡ accepted c → Describes ending t c
 unfolding headerTests
-describes t a =
-    let h = header-accepted t a in
+read-describes ending t a =
+    let h = header-accepted ending t a in
     let n : Counts = countsOf (h .numbers) in
-    let b = read-body (top n) (kinds n) (h .behind) (h .on) in
+    let b = read-body ending (top n) (kinds n) (h .behind) (h .on) in
     rw (← (h .gives)) (record {
       short = h .short;
       legal = taken-refusal (record { bounded = passed-bounded n (h .passes .1 .1); long = omega (arith, size-kinds n); rules = b .rules });
       whole = b .sized ∙ size-kinds n;
       body = h .behind;
-      text = header-text t (h .split) ∙ ap (λ x. magic ++ (lineText x ++ h .behind)) (head-counts (h .numbers) (h .passes));
+      text = header-text ending t (h .split) ∙ ap (λ x. magic ++ (endedLine ending x ++ h .behind)) (head-counts (h .numbers) (h .passes));
       rest = h .lines .rest;
       says = b .says;
-      closes = ends-closing _ (h .closed);
+      closes = ends-closing ending _ (h .closed);
     })
 
-pub grammar : (t : List ℕ) (c : Content) → (readText t ≡ accepted c) ↔ Describes t c
+-- ---- "each line ends in byte 10"
+
+pub described : {t : List ℕ} {c : Content} → Describes newline t c → readText t ≡ accepted c
+unfolding readText
+described d = described-read newline-proper d
+
+pub describes : (t : List ℕ) {c : Content} → readText t ≡ accepted c → Describes newline t c
+unfolding readText
+describes t a = read-describes newline t a
+
+pub grammar : (t : List ℕ) (c : Content) → (readText t ≡ accepted c) ↔ Describes newline t c
 grammar t c = (describes t, described)

@@ -11,7 +11,7 @@ use Rattle.three.specs.Lists.{every}
 use Rattle.three.proofs.Lists.{and-parts, by-test}
 use Rattle.text.specs.Part.{Part, got, ill}
 use Rattle.text.specs.Decimal.{decimal, isDigit, readNumber}
-use Rattle.text.specs.Line.{newline, space, lineText, strip, prepend, splitLine}
+use Rattle.text.specs.Line.{newline, space, lineText, strip, prepend, splitLine, endedLine}
 use Rattle.text.proofs.Parts.{Holds, held, by-part}
 use Rattle.text.proofs.Decimals.{noDigit, decimal-read, Numeral, read-decimal}
 
@@ -63,31 +63,32 @@ strip-unlike [] t h e = absurd (true≢false e)
 strip-unlike (b ∷ bs) [] h e = strip-none b bs
 strip-unlike (b ∷ bs) (d ∷ t) h e = by-test (eqb b d) (λ q. strip-same b d bs t q ∙ strip-unlike bs t (omega arith) (rw q at e)) (strip-other b d bs t)
 
--- ---- reading, number by number
+-- ---- reading, number by number: what stands behind it decides
 
-module _ (most : ℕ) (t : List ℕ) where
-  pub number-ill : readNumber t ≡ ill → splitLine (suc most) t ≡ ill
+module _ (ending : List ℕ) (most : ℕ) (t : List ℕ) where
+  pub number-ill : readNumber t ≡ ill → splitLine ending (suc most) t ≡ ill
   unfolding splitLine
   number-ill e = rw (splitLine, e)
 
   module _ {n : ℕ} {r : List ℕ} (e : readNumber t ≡ got n r) where
-    pub number-last : {rest : List ℕ} → r ≡ newline ++ rest → splitLine (suc most) t ≡ got (n ∷ []) rest
-    unfolding splitLine strip
+    pub number-last : {rest : List ℕ} → strip ending r ≡ got tt rest → splitLine ending (suc most) t ≡ got (n ∷ []) rest
+    unfolding splitLine
     number-last f = rw (splitLine, e, f)
 
-    pub number-more : {rest : List ℕ} → r ≡ space ++ rest → splitLine (suc most) t ≡ prepend n (splitLine most rest)
-    unfolding splitLine strip
-    number-more f = rw (splitLine, e, f, f)
+    module _ (f : strip ending r ≡ ill) where
+      pub number-more : {rest : List ℕ} → strip space r ≡ got tt rest → splitLine ending (suc most) t ≡ prepend n (splitLine ending most rest)
+      unfolding splitLine
+      number-more g = rw (splitLine, e, f, g)
 
-    pub number-other : strip newline r ≡ ill → strip space r ≡ ill → splitLine (suc most) t ≡ ill
-    unfolding splitLine
-    number-other f g = rw (splitLine, e, f, g)
+      pub number-other : strip space r ≡ ill → splitLine ending (suc most) t ≡ ill
+      unfolding splitLine
+      number-other g = rw (splitLine, e, f, g)
 
 -- ---- how long a line is
 
 -- a number and the byte behind it
 pub length-line : (n : ℕ) (ns : List ℕ) → length (lineText (n ∷ ns)) ≡ length (decimal n) + 1 + length (lineText ns)
-unfolding lineText
+unfolding endedLine
 length-line n [] = simp length-append (omega arith)
 length-line n (m ∷ ns) = simp length-append (omega arith)
 
@@ -98,43 +99,53 @@ abbrev pub Short : List ℕ → Type 0
 Short [] = Unit {0}
 Short (n ∷ ns) = (n < 100000) × Short ns
 
-pub line-split : (most : ℕ) (ns t : List ℕ) → 0 < length ns → length ns ≤ most → Short ns → splitLine most (lineText ns ++ t) ≡ got ns t
-unfolding lineText prepend noDigit isDigit
-line-split most [] t p h s = absurd (omega arith)
-line-split zero (n ∷ ns) t p h s = absurd (omega arith)
-line-split (suc most) (n ∷ []) t p h s = rw append-assoc (number-last most _ (decimal-read n (newline ++ t) (s .0) refl) refl)
-line-split (suc most) (n ∷ m ∷ ns) t p h s =
-    simp append-assoc (number-more most _ (decimal-read n (space ++ (lineText (m ∷ ns) ++ t)) (s .0) refl) refl
-    ∙ rw (line-split most (m ∷ ns) t (omega arith) (omega arith) (s .1)))
+-- an ending that no number and no space takes for its own
+pub record Proper (ending : List ℕ) : Type 0 where
+  pub breaks : (t : List ℕ) → noDigit (ending ++ t) ≡ true
+  pub apart : (t : List ℕ) → strip ending (space ++ t) ≡ ill
+
+pub newline-proper : Proper newline
+unfolding noDigit isDigit strip
+newline-proper = record { breaks = λ t. refl; apart = λ t. refl }
+
+pub line-split : (ending : List ℕ) → Proper ending → (most : ℕ) (ns t : List ℕ) → 0 < length ns → length ns ≤ most → Short ns → splitLine ending most (endedLine ending ns ++ t) ≡ got ns t
+unfolding endedLine prepend noDigit isDigit
+line-split ending e most [] t p h s = absurd (omega arith)
+line-split ending e zero (n ∷ ns) t p h s = absurd (omega arith)
+line-split ending e (suc most) (n ∷ []) t p h s = rw append-assoc (number-last ending most _ (decimal-read n (ending ++ t) (s .0) (e .breaks t)) (strip-front ending t))
+line-split ending e (suc most) (n ∷ m ∷ ns) t p h s =
+    simp append-assoc (number-more ending most _ (decimal-read n (space ++ (endedLine ending (m ∷ ns) ++ t)) (s .0) refl) (e .apart _) (strip-front space _)
+    ∙ rw (line-split ending e most (m ∷ ns) t (omega arith) (omega arith) (s .1)))
 
 -- ---- what is read was so written
 
--- t opens with the line of ns, and goes on with r
-pub record Opens (most : ℕ) (t ns r : List ℕ) : Type 0 where
-  pub text : t ≡ lineText ns ++ r
-  pub some : 0 < length ns
-  pub few : length ns ≤ most
-  pub short : Short ns
+module _ (ending : List ℕ) where
+  -- t opens with the line of ns, and goes on with r
+  pub record Opens (most : ℕ) (t ns r : List ℕ) : Type 0 where
+    pub text : t ≡ endedLine ending ns ++ r
+    pub some : 0 < length ns
+    pub few : length ns ≤ most
+    pub short : Short ns
 
-opens-prepend : (most : ℕ) {t : List ℕ} {n : ℕ} {r : List ℕ} → Numeral t n (space ++ r)
-    → (p : Part (List ℕ)) → Holds (Opens most r) p → Holds (Opens (suc most) t) (prepend n p)
-unfolding prepend lineText
-opens-prepend most num ill h = tt
-opens-prepend most num (got [] r) h = absurd (omega arith)
-opens-prepend most num (got (m ∷ ns) r) h = record { text = num .text ∙ simp append-assoc (rw (← (h .text))); some = omega arith; few = omega arith; short = (num .short, h .short) }
+  opens-prepend : (most : ℕ) {t : List ℕ} {n : ℕ} {r : List ℕ} → Numeral t n (space ++ r)
+      → (p : Part (List ℕ)) → Holds (Opens most r) p → Holds (Opens (suc most) t) (prepend n p)
+  unfolding prepend endedLine
+  opens-prepend most num ill h = tt
+  opens-prepend most num (got [] r) h = absurd (omega arith)
+  opens-prepend most num (got (m ∷ ns) r) h = record { text = num .text ∙ simp append-assoc (rw (← (h .text))); some = omega arith; few = omega arith; short = (num .short, h .short) }
 
-splitLine-opens : (most : ℕ) (t : List ℕ) → Holds (Opens most t) (splitLine most t)
-unfolding splitLine lineText
-splitLine-opens zero t = tt
-splitLine-opens (suc most) t = by-part (readNumber t)
-    (λ n r e. let num : Numeral t n r = read-decimal e in by-part (strip newline r)
-    (λ u rest f. let g = front-strip newline r rest f in
-    rw (number-last most t e g) (record { text = num .text ∙ rw (append-assoc, g); some = omega arith; few = omega arith; short = (num .short, tt) }))
-    (λ f. by-part (strip space r)
-    (λ u rest g. let h = front-strip space r rest g in
-    rw (number-more most t e h) (opens-prepend most (rw h at num) (splitLine most rest) (splitLine-opens most rest)))
-    (λ g. rw (number-other most t e f g) tt)))
-    (λ e. rw (number-ill most t e) tt)
+  splitLine-opens : (most : ℕ) (t : List ℕ) → Holds (Opens most t) (splitLine ending most t)
+  unfolding splitLine endedLine
+  splitLine-opens zero t = tt
+  splitLine-opens (suc most) t = by-part (readNumber t)
+      (λ n r e. let num : Numeral t n r = read-decimal e in by-part (strip ending r)
+      (λ u rest f. let g = front-strip ending r rest f in
+      rw (number-last ending most t e f) (record { text = num .text ∙ rw (append-assoc, g); some = omega arith; few = omega arith; short = (num .short, tt) }))
+      (λ f. by-part (strip space r)
+      (λ u rest g. let h = front-strip space r rest g in
+      rw (number-more ending most t e f g) (opens-prepend most (rw h at num) (splitLine ending most rest) (splitLine-opens most rest)))
+      (λ g. rw (number-other ending most t e f g) tt)))
+      (λ e. rw (number-ill ending most t e) tt)
 
-pub split-line : (most : ℕ) {t ns r : List ℕ} → splitLine most t ≡ got ns r → Opens most t ns r
-split-line most {t} e = held _ (splitLine-opens most t) e
+  pub split-line : (most : ℕ) {t ns r : List ℕ} → splitLine ending most t ≡ got ns r → Opens most t ns r
+  split-line most {t} e = held _ (splitLine-opens most t) e

@@ -4,9 +4,9 @@ use Prim.Native.Nat.{ℕ, zero, suc, _≤_}
 use native.Mathlib.Omega.{arith}
 use Rattle.circuit.specs.Refusal.{Test, refusal}
 use Rattle.circuit.specs.Table.{Kind, kinds}
-use Rattle.text.specs.Line.{readLine}
+use Rattle.text.specs.Line.{newline, readLine}
 use Rattle.text.specs.Outcome.{Outcome, accepted, refused, after, tested, further, onward}
-use Rattle.text.specs.Text.{readLines, thenEnds, header, countsOf, readText}
+use Rattle.text.specs.Text.{readLines, thenEnds, header, countsOf, readEnded, readText}
 use Rattle.text.proofs.Parts.{by-part}
 
 abbrev pub HasNumber : {A : Type 0} → Outcome A → Type 0
@@ -31,15 +31,15 @@ unfolding further
 further-numbered ts (accepted a) h = tested-numbered (ts a) (accepted a) tt
 further-numbered ts (refused n) h = h
 
-lines-numbered : (tests : Kind → List ℕ → List Test) (ks : List Kind) (t : List ℕ) → HasNumber (readLines tests ks t)
+lines-numbered : (ending : List ℕ) (tests : Kind → List ℕ → List Test) (ks : List Kind) (t : List ℕ) → HasNumber (readLines ending tests ks t)
 unfolding readLines
-lines-numbered tests [] t = tt
-lines-numbered tests (k ∷ ks) t = by-part (readLine t)
-    (λ ns rest e. rw (readLines, e) (tested-numbered _ _ (onward-numbered _ _ (lines-numbered tests ks rest))))
+lines-numbered ending tests [] t = tt
+lines-numbered ending tests (k ∷ ks) t = by-part (readLine ending t)
+    (λ ns rest e. rw (readLines, e) (tested-numbered _ _ (onward-numbered _ _ (lines-numbered ending tests ks rest))))
     (λ e. rw (readLines, e) (omega arith))
 
 pub read-numbered : (t : List ℕ) → HasNumber (readText t)
-unfolding readText thenEnds
-read-numbered t = by-part (header t)
-    (λ ns rest e. rw (readText, e) (tested-numbered _ _ (tested-numbered _ _ (onward-numbered _ _ (further-numbered _ _ (lines-numbered _ (kinds (countsOf ns)) rest))))))
-    (λ e. rw (readText, e) (tested-numbered _ (refused 2) (omega arith)))
+unfolding readText readEnded thenEnds
+read-numbered t = by-part (header newline t)
+    (λ ns rest e. rw (readEnded, e) (tested-numbered _ _ (tested-numbered _ _ (onward-numbered _ _ (further-numbered _ _ (lines-numbered _ _ (kinds (countsOf ns)) rest))))))
+    (λ e. rw (readEnded, e) (tested-numbered _ (refused 2) (omega arith)))

@@ -17,6 +17,7 @@ use Rattle.text.proofs.Tables.{size, size-kinds, Taken, taken, taken-re
 use Rattle.text.proofs.Grammar.{Spelled, inputLine, latchLine, latchPlain, lampLine, gateLine, Says, stop, line, done, Describes, described, describes}
 use Rattle.text.proofs.Bound.{text-bound}
 use Rattle.text.proofs.Answers.{read-fits, reading-accepted, write-legal}
+use Rattle.text.specs.Line.{newline}
 
 -- A line's words, in front of others, spell what is written and keep the rules that they kept
 record Row (k : Kind) (ws rest : List ℕ) : Type 0 where
@@ -36,7 +37,7 @@ row (gate own) [] rest w = absurd (omega arith)
 row (gate own) (a ∷ []) rest w = absurd (omega arith)
 row (gate own) (a ∷ b ∷ ws) rest w = record { spelled = gateLine; rules = λ most. refl }
 
-written-says : (ks : List Kind) (ws : List ℕ) → size ks ≤ length ws → Says [] ks (take (size ks) ws) (writeBody ks ws)
+written-says : (ks : List Kind) (ws : List ℕ) → size ks ≤ length ws → Says newline [] ks (take (size ks) ws) (writeBody ks ws)
 unfolding writeBody size
 written-says [] ws h = stop
 written-says (k ∷ ks) ws h =
@@ -90,7 +91,7 @@ abbrev pub given : Counts → List ℕ → Content
 given c table = record { counts = c; words = take (tableLength c) table }
 
 module _ (c : Counts) (table : List ℕ) (legal : 0 ≡ refusal (circuitTests c table)) where
-  pub written-describes : Describes (writeText c table) (given c table)
+  pub written-describes : Describes newline (writeText c table) (given c table)
   unfolding writeText
   written-describes =
       let k : Taken c table = taken c table legal in

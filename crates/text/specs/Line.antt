@@ -1,4 +1,4 @@
--- Lines (document 01, Text): one or more numbers, one space between, ended by byte 10. Assumes nothing.
+-- Lines (document 01, Text): one or more numbers, one space between, and the ending. Assumes nothing.
 use mathlib.Core.Bool.{true, false}
 use mathlib.Core.List.{List, [], _∷_, _++_}
 use Prim.Native.Nat.{ℕ, zero, suc}
@@ -6,7 +6,7 @@ use lib.Dec.{eqb}
 use Rattle.text.specs.Part.{Part, got, ill}
 use Rattle.text.specs.Decimal.{decimal, readNumber}
 
--- a line's end
+-- byte 10, which ends each line that is written
 abbrev pub newline : List ℕ
 newline = 10 ∷ []
 
@@ -14,11 +14,15 @@ newline = 10 ∷ []
 abbrev pub space : List ℕ
 space = 32 ∷ []
 
--- the line of these numbers
-unfoldable pub lineText : List ℕ → List ℕ
-lineText [] = []
-lineText (n ∷ []) = decimal n ++ newline
-lineText (n ∷ m ∷ ns) = decimal n ++ space ++ lineText (m ∷ ns)
+-- the line of these numbers, with its ending
+unfoldable pub endedLine : List ℕ → List ℕ → List ℕ
+endedLine ending [] = []
+endedLine ending (n ∷ []) = decimal n ++ ending
+endedLine ending (n ∷ m ∷ ns) = decimal n ++ space ++ endedLine ending (m ∷ ns)
+
+-- the same as it is written
+abbrev pub lineText : List ℕ → List ℕ
+lineText ns = endedLine newline ns
 
 -- takes these bytes off the front
 unfoldable pub strip : List ℕ → List ℕ → Part (Unit {0})
@@ -32,15 +36,15 @@ prepend n (got ns t) = got (n ∷ ns) t
 prepend n ill = ill
 
 -- the numbers of a line that has at most `most` of them
-unfoldable pub splitLine : ℕ → List ℕ → Part (List ℕ)
-splitLine zero t = ill
-splitLine (suc most) t = elim (readNumber t) [
+unfoldable pub splitLine : List ℕ → ℕ → List ℕ → Part (List ℕ)
+splitLine ending zero t = ill
+splitLine ending (suc most) t = elim (readNumber t) [
   | ill ↦ ill
   | got n r ↦
-      elim (strip newline r) [
+      elim (strip ending r) [
         | got u rest ↦ got (n ∷ []) rest
         | ill ↦
-            elim (strip space r) [ got u rest ↦ prepend n (splitLine most rest) | ill ↦ ill ]
+            elim (strip space r) [ got u rest ↦ prepend n (splitLine ending most rest) | ill ↦ ill ]
       ]
 ]
 
@@ -49,5 +53,5 @@ abbrev pub mostNumbers : ℕ
 mostNumbers = 5
 
 -- the numbers of a line
-abbrev pub readLine : List ℕ → Part (List ℕ)
-readLine t = splitLine mostNumbers t
+abbrev pub readLine : List ℕ → List ℕ → Part (List ℕ)
+readLine ending t = splitLine ending mostNumbers t

@@ -1,5 +1,5 @@
 -- The text of a circuit (document 01, Text): how it is written, and how it is read or refused with 1 to 9.
--- Decided here: a last `c` without byte 10 is no line, and so is 9. Assumes nothing.
+-- Decided here: a last `c` without the ending is no line, and so is 9. Assumes nothing.
 use mathlib.Core.Bool.{Bool, true, false, _&&_}
 use mathlib.Core.List.{List, [], _∷_, _++_}
 use Prim.Native.Nat.{ℕ, zero, suc}
@@ -71,13 +71,13 @@ unfoldable pub lineTests : ℕ → Kind → List ℕ → List Test
 lineTests most k ns = fits k (length ns) or 4 ∷ owns k ns or 5 ∷ rowTests most k (words k ns)
 
 -- the line that is just `c`
-abbrev pub comment : List ℕ
-comment = 99 ∷ newline
+abbrev pub comment : List ℕ → List ℕ
+comment ending = 99 ∷ ending
 
 -- the end of the text, or that line, after which everything is skipped
-unfoldable pub ends : List ℕ → Bool
-ends [] = true
-ends (b ∷ t) = elim (strip comment (b ∷ t)) [ got u rest ↦ true | ill ↦ false ]
+unfoldable pub ends : List ℕ → List ℕ → Bool
+ends ending [] = true
+ends ending (b ∷ t) = elim (strip (comment ending) (b ∷ t)) [ got u rest ↦ true | ill ↦ false ]
 
 -- What lines are read as: their words, and the text behind them
 pub record Lines : Type 0 where
@@ -89,20 +89,20 @@ unfoldable pub inFront : List ℕ → Lines → Lines
 inFront ws l = record { words = ws ++ l .words; rest = l .rest }
 
 -- a line for each kind, in order, each judged by its tests; 4 where there is none
-unfoldable pub readLines : (Kind → List ℕ → List Test) → List Kind → List ℕ → Outcome Lines
-readLines tests [] t = accepted (record { words = []; rest = t })
-readLines tests (k ∷ ks) t = elim (readLine t) [
+unfoldable pub readLines : List ℕ → (Kind → List ℕ → List Test) → List Kind → List ℕ → Outcome Lines
+readLines ending tests [] t = accepted (record { words = []; rest = t })
+readLines ending tests (k ∷ ks) t = elim (readLine ending t) [
   | ill ↦ refused 4
-  | got ns rest ↦ tested (tests k ns) (onward (inFront (words k ns)) (readLines tests ks rest))
+  | got ns rest ↦ tested (tests k ns) (onward (inFront (words k ns)) (readLines ending tests ks rest))
 ]
 
 -- then 9
-unfoldable pub thenEnds : Outcome Lines → Outcome Lines
-thenEnds o = further (λ l. ends (l .rest) or 9 ∷ []) o
+unfoldable pub thenEnds : List ℕ → Outcome Lines → Outcome Lines
+thenEnds ending o = further (λ l. ends ending (l .rest) or 9 ∷ []) o
 
 -- the numbers of the first line
-unfoldable pub header : List ℕ → Part (List ℕ)
-header t = elim (strip magic t) [ got u r ↦ readLine r | ill ↦ ill ]
+unfoldable pub header : List ℕ → List ℕ → Part (List ℕ)
+header ending t = elim (strip magic t) [ got u r ↦ readLine ending r | ill ↦ ill ]
 
 -- I, L, O and A among them
 unfoldable pub countsOf : List ℕ → Counts
@@ -121,10 +121,14 @@ pub record Content : Type 0 where
 abbrev pub content : List ℕ → Lines → Content
 content ns l = record { counts = countsOf ns; words = l .words }
 
--- 1, 2, 3, then line by line, 9
-unfoldable pub readText : List ℕ → Outcome Content
-readText t = tested (leb (length t) 60000 or 1 ∷ []) (elim (header t) [
+-- 1, 2, 3, then line by line, 9, in a text whose lines have this ending
+unfoldable pub readEnded : List ℕ → List ℕ → Outcome Content
+readEnded ending t = tested (leb (length t) 60000 or 1 ∷ []) (elim (header ending t) [
   | ill ↦ refused 2
   | got ns rest ↦
-      tested (headerTests ns) (onward (content ns) (thenEnds (readLines (lineTests (top (countsOf ns))) (kinds (countsOf ns)) rest)))
+      tested (headerTests ns) (onward (content ns) (thenEnds ending (readLines ending (lineTests (top (countsOf ns))) (kinds (countsOf ns)) rest)))
 ])
+
+-- "each line ends in byte 10"
+unfoldable pub readText : List ℕ → Outcome Content
+readText t = readEnded newline t

@@ -11,7 +11,7 @@ use Rattle.three.proofs.Lists.{and-parts}
 use Rattle.circuit.specs.Refusal.{leftBy}
 use Rattle.tick.specs.Tick.{recordTests, tickResultTests, TickGiven, tickTests}
 use Rattle.text.specs.Decimal.{digits, decimal}
-use Rattle.text.specs.Line.{lineText}
+use Rattle.text.specs.Line.{endedLine}
 use Rattle.text.specs.Text.{headNumbers, shown, numbers, writeBody, writeText}
 use Rattle.text.specs.Calls.{writeTests}
 use Rattle.cubes.specs.Call.{outcomeNumber, RunGiven, refusedBy, outcomeIn}
@@ -64,7 +64,7 @@ unfolding writeNumber
 writes-number g number allows = allows .writing .answers
 
 writes-computed : numbered writeNumber writes ≡ true
-unfolding computed numbered writeNumber writes writeTests writeText headNumbers lineText decimal digits writeBody numbers shown
+unfolding computed numbered writeNumber writes writeTests writeText headNumbers endedLine decimal digits writeBody numbers shown
 writes-computed = refl
 
 pub write-order : AsNumbered WriteAllows writes

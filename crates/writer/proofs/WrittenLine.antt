@@ -10,7 +10,7 @@ use Rattle.circuit.specs.declared.Counts.{Counts}
 use Rattle.circuit.specs.Table.{variables, width}
 use Rattle.writer.specs.declared.LineNumbers.{LineNumbers}
 use Rattle.text.specs.Decimal.{decimal}
-use Rattle.text.specs.Line.{newline, space, lineText}
+use Rattle.text.specs.Line.{newline, space, lineText, endedLine}
 use Rattle.text.specs.Text.{magic, headNumbers, shown, numbers}
 use Rattle.text.specs.KindsInCode.{coded}
 use Rattle.text.proofs.Coding.{width-two, coded-gate}
@@ -19,21 +19,21 @@ use Rattle.writer.specs.WriterInCode.{andMore, lineNumbers, countNumbers
 -- ---- by how many numbers it has
 
 none-text : (m a b c : ℕ) → m ≡ 0 → lineText (andMore m a b c) ≡ decimal a ++ newline
-unfolding lineText andMore
+unfolding endedLine andMore
 none-text m a b c e = rw (e, andMore)
 
 one-text : (m a b c : ℕ) → m ≡ 1 → lineText (andMore m a b c) ≡ (decimal a ++ space) ++ (decimal b ++ newline)
-unfolding lineText andMore
+unfolding endedLine andMore
 one-text m a b c e = rw (e, andMore) (simp append-assoc)
 
 two-text : (m a b c : ℕ) → (m ≡ 0 → ⊥) → (m ≡ 1 → ⊥) → lineText (andMore m a b c) ≡ ((decimal a ++ space) ++ (decimal b ++ space)) ++ (decimal c ++ newline)
-unfolding lineText andMore
+unfolding endedLine andMore
 two-text zero a b c f g = absurd (f refl)
 two-text (suc zero) a b c f g = absurd (g refl)
 two-text (suc (suc m)) a b c f g = simp append-assoc
 
 some-text : (m a b c : ℕ) → (m ≡ 0 → ⊥) → length (decimal a) + 1 + (length (decimal b) + 1) ≤ length (lineText (andMore m a b c))
-unfolding lineText andMore
+unfolding endedLine andMore
 some-text zero a b c f = absurd (f refl)
 some-text (suc zero) a b c f = simp length-append (omega arith)
 some-text (suc (suc m)) a b c f = simp length-append (omega arith)
@@ -109,17 +109,17 @@ module _ (own : ℕ) (words : List ℕ) (at : ℕ) where
 
 module _ (c : Counts) where
   pub counts-text : lineText (countNumbers c) ≡ ((word (c .inputs) 32 ++ word (c .latches) 32) ++ word (c .lamps) 32) ++ word (c .gates) 10
-  unfolding lineText countNumbers
+  unfolding endedLine countNumbers
   counts-text = simp append-assoc
 
   pub counts-length : length (lineText (countNumbers c)) ≡ 4 + length (decimal (c .inputs)) + length (decimal (c .latches)) + length (decimal (c .lamps)) + length (decimal (c .gates))
-  unfolding lineText countNumbers
+  unfolding endedLine countNumbers
   counts-length = simp length-append (omega arith)
 
   pub head-text : magic ++ lineText (headNumbers c) ≡ (magic ++ word (variables c) 32) ++ lineText (countNumbers c)
-  unfolding lineText headNumbers countNumbers
+  unfolding endedLine headNumbers countNumbers
   head-text = simp append-assoc
 
   pub head-length : length (magic ++ lineText (headNumbers c)) ≡ 5 + length (decimal (variables c)) + length (lineText (countNumbers c))
-  unfolding lineText headNumbers countNumbers
+  unfolding endedLine headNumbers countNumbers
   head-length = simp length-append (omega arith)

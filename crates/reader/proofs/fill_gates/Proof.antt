@@ -6,16 +6,17 @@ use native.Mathlib.Omega.{arith}
 use Rattle.circuit.specs.declared.Counts.{Counts}
 use Rattle.circuit.specs.Table.{gate}
 use Rattle.reader.specs.ReaderInCode.{gatesOn, stand, Fillable}
+use Rattle.lines.specs.LinesInCode.{endingBytes}
 use Rattle.reader.proofs.Filling.{gate-words, Filling, filling-first, filling-fits, filling-next, filling-last}
 use Rattle.reader.proofs.fill_gates.Statement.{statement}
 use Rattle.reader.proofs.fill_gates.Tie as tie
 
 abbrev Inv-loop : tie.InvT-loop
-Inv-loop text at table₀ first next₀ i₀ i-end table next i =
-    (k : Counts) → k .gates ≡ i-end → Fillable text k (stand (gatesOn k) at first table₀) → Filling text k gate (2 + 2 * k .inputs + 2 * k .latches) (k .gates) [] (stand (gatesOn k) at first table₀) next (first + 2 * i) i table
+Inv-loop text at ending table₀ first next₀ i₀ i-end table next i =
+    (k : Counts) → k .gates ≡ i-end → Fillable (endingBytes ending) text k (stand (gatesOn k) at first table₀) → Filling (endingBytes ending) text k gate (2 + 2 * k .inputs + 2 * k .latches) (k .gates) [] (stand (gatesOn k) at first table₀) next (first + 2 * i) i table
 
 abbrev μ-loop : tie.MeasureT-loop
-μ-loop text at table₀ first next₀ i₀ i-end table next i = i-end - i
+μ-loop text at ending table₀ first next₀ i₀ i-end table next i = i-end - i
 
 mul-first : tie.Need-mul-first Inv-loop μ-loop
 mul-first c = omega arith

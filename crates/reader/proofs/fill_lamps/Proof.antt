@@ -5,16 +5,17 @@ use native.Mathlib.Omega.{arith}
 use Rattle.circuit.specs.declared.Counts.{Counts}
 use Rattle.circuit.specs.Table.{lamp}
 use Rattle.reader.specs.ReaderInCode.{lampsOn, gatesOn, stand, Fillable}
+use Rattle.lines.specs.LinesInCode.{endingBytes}
 use Rattle.reader.proofs.Filling.{lamp-words, Filling, filling-first, filling-fits, filling-next, filling-last}
 use Rattle.reader.proofs.fill_lamps.Statement.{statement}
 use Rattle.reader.proofs.fill_lamps.Tie as tie
 
 abbrev Inv-loop : tie.InvT-loop
-Inv-loop text at table₀ first next₀ i₀ i-end table next i =
-    (k : Counts) → k .lamps ≡ i-end → Fillable text k (stand (lampsOn k) at first table₀) → Filling text k (λ own. lamp) 0 (k .lamps) (gatesOn k) (stand (lampsOn k) at first table₀) next (first + i) i table
+Inv-loop text at ending table₀ first next₀ i₀ i-end table next i =
+    (k : Counts) → k .lamps ≡ i-end → Fillable (endingBytes ending) text k (stand (lampsOn k) at first table₀) → Filling (endingBytes ending) text k (λ own. lamp) 0 (k .lamps) (gatesOn k) (stand (lampsOn k) at first table₀) next (first + i) i table
 
 abbrev μ-loop : tie.MeasureT-loop
-μ-loop text at table₀ first next₀ i₀ i-end table next i = i-end - i
+μ-loop text at ending table₀ first next₀ i₀ i-end table next i = i-end - i
 
 mul-first : tie.Need-mul-first Inv-loop μ-loop
 mul-first c = omega arith

@@ -5,16 +5,17 @@ use native.Mathlib.Omega.{arith}
 use Rattle.circuit.specs.declared.Counts.{Counts}
 use Rattle.circuit.specs.Table.{latch}
 use Rattle.reader.specs.ReaderInCode.{latchesOn, lampsOn, stand, Fillable}
+use Rattle.lines.specs.LinesInCode.{endingBytes}
 use Rattle.reader.proofs.Filling.{latch-words, Filling, filling-first, filling-fits, filling-next, filling-last}
 use Rattle.reader.proofs.fill_latches.Statement.{statement}
 use Rattle.reader.proofs.fill_latches.Tie as tie
 
 abbrev Inv-loop : tie.InvT-loop
-Inv-loop text at table₀ next₀ i₀ i-end table next i =
-    (k : Counts) → k .latches ≡ i-end → Fillable text k (stand (latchesOn k) at 0 table₀) → Filling text k latch (2 + 2 * k .inputs) (k .latches) (lampsOn k) (stand (latchesOn k) at 0 table₀) next (2 * i) i table
+Inv-loop text at ending table₀ next₀ i₀ i-end table next i =
+    (k : Counts) → k .latches ≡ i-end → Fillable (endingBytes ending) text k (stand (latchesOn k) at 0 table₀) → Filling (endingBytes ending) text k latch (2 + 2 * k .inputs) (k .latches) (lampsOn k) (stand (latchesOn k) at 0 table₀) next (2 * i) i table
 
 abbrev μ-loop : tie.MeasureT-loop
-μ-loop text at table₀ next₀ i₀ i-end table next i = i-end - i
+μ-loop text at ending table₀ next₀ i₀ i-end table next i = i-end - i
 
 loop-holds : tie.Need-loop-holds Inv-loop μ-loop
 loop-holds c = λ k e f. filling-first f (omega arith)

@@ -13,13 +13,13 @@ no-line-requires : tie.Need-no-line-requires
 no-line-requires c κs = search needs
 
 returns : tie.Need-returns
-returns c = rw (header-none _ (c .before .before .opens .ensures) (not-true _ (c .before .if1 .taken))) (c .no-line .ensures _ (omega arith))
+returns c = rw (header-none _ _ (c .before .before .opens .ensures) (not-true _ (c .before .if1 .taken))) (c .no-line .ensures _ (omega arith))
 
 line-requires : tie.Need-line-requires
 line-requires c κs = opened-long _ (c .before .opens .ensures) (not-false _ (c .if1 .left))
 
 returns-2 : tie.Need-returns-2
-returns-2 c = rw (header-line _ (c .before .before .opens .ensures) (not-false _ (c .before .if1 .left))) (c .line .ensures)
+returns-2 c = rw (header-line _ _ (c .before .before .opens .ensures) (not-false _ (c .before .if1 .left))) (c .line .ensures)
 
 pub header-spec : {M : Type 1} → statement M
 header-spec = tie.close (tie.spec opens-requires no-line-requires returns line-requires returns-2)

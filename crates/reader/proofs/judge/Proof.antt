@@ -7,7 +7,7 @@ use Rattle.reader.proofs.judge.Statement.{statement}
 use Rattle.reader.proofs.judge.Tie as tie
 
 returns : tie.Need-returns
-returns c = judged-long _ (c .if1 .taken)
+returns c = judged-long _ _ (c .if1 .taken)
 
 header-requires : tie.Need-header-requires
 header-requires c κs = search needs
@@ -16,7 +16,7 @@ header-refusal-requires : tie.Need-header-refusal-requires
 header-refusal-requires c κs = search needs
 
 returns-2 : tie.Need-returns-2
-returns-2 c = judged-header _ (c .before .before .before .if1 .left) (c .before .before .header .ensures) (c .before .header-refusal .ensures) (c .if2 .taken)
+returns-2 c = judged-header _ _ (c .before .before .before .if1 .left) (c .before .before .header .ensures) (c .before .header-refusal .ensures) (c .if2 .taken)
 
 counts-of-requires : tie.Need-counts-of-requires
 counts-of-requires c κs = search needs
@@ -24,14 +24,14 @@ counts-of-requires c κs = search needs
 judge-body-requires : tie.Need-judge-body-requires
 judge-body-requires c κs =
     let refusal = c .before .before in
-    (judged-bounded _ (refusal .before .before .if1 .left) (refusal .before .header .ensures) (refusal .header-refusal .ensures) (c .before .if2 .left) (c .counts-of .ensures), omega arith)
+    (judged-bounded _ _ (refusal .before .before .if1 .left) (refusal .before .header .ensures) (refusal .header-refusal .ensures) (c .before .if2 .left) (c .counts-of .ensures), omega arith)
 
 returns-3 : tie.Need-returns-3
 returns-3 c =
     let body = c .before .before in
     let counts = body .before in
     let refusal = counts .before .before in
-    judged-stops _ (refusal .before .before .if1 .left) (refusal .before .header .ensures) (refusal .header-refusal .ensures) (counts .before .if2 .left) (counts .counts-of .ensures) (body .judge-body .ensures) (c .if3 .taken)
+    judged-stops _ _ (refusal .before .before .if1 .left) (refusal .before .header .ensures) (refusal .header-refusal .ensures) (counts .before .if2 .left) (counts .counts-of .ensures) (body .judge-body .ensures) (c .if3 .taken)
 
 ended-requires : tie.Need-ended-requires
 ended-requires c κs = search needs
@@ -41,14 +41,14 @@ returns-4 c =
     let body = c .before .before .before .before in
     let counts = body .before in
     let refusal = counts .before .before in
-    judged-open _ (refusal .before .before .if1 .left) (refusal .before .header .ensures) (refusal .header-refusal .ensures) (counts .before .if2 .left) (counts .counts-of .ensures) (body .judge-body .ensures) (c .before .before .if3 .left) (c .before .ended .ensures) (not-true _ (c .if4 .taken))
+    judged-open _ _ (refusal .before .before .if1 .left) (refusal .before .header .ensures) (refusal .header-refusal .ensures) (counts .before .if2 .left) (counts .counts-of .ensures) (body .judge-body .ensures) (c .before .before .if3 .left) (c .before .ended .ensures) (not-true _ (c .if4 .taken))
 
 returns-5 : tie.Need-returns-5
 returns-5 c =
     let body = c .before .before .before .before in
     let counts = body .before in
     let refusal = counts .before .before in
-    judged-body _ (refusal .before .before .if1 .left) (refusal .before .header .ensures) (refusal .header-refusal .ensures) (counts .before .if2 .left) (counts .counts-of .ensures) (body .judge-body .ensures) (c .before .before .if3 .left) (c .before .ended .ensures) (not-false _ (c .if4 .left))
+    judged-body _ _ (refusal .before .before .if1 .left) (refusal .before .header .ensures) (refusal .header-refusal .ensures) (counts .before .if2 .left) (counts .counts-of .ensures) (body .judge-body .ensures) (c .before .before .if3 .left) (c .before .ended .ensures) (not-false _ (c .if4 .left))
 
 pub judge-spec : {M : Type 1} → statement M
 judge-spec =

@@ -11,7 +11,7 @@ line-refusal-requires : tie.Need-line-refusal-requires
 line-refusal-requires c κs = search needs
 
 returns : tie.Need-returns
-returns c = line-judged _ _ _ _ _ _ (c .before .line .ensures) (c .line-refusal .ensures)
+returns c = line-judged _ _ _ _ _ _ _ (c .before .line .ensures) (c .line-refusal .ensures)
 
 pub judge-line-spec : {M : Type 1} → statement M
 judge-line-spec = tie.close (tie.spec line-requires line-refusal-requires returns)

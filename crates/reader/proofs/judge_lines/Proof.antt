@@ -2,19 +2,20 @@
 use Prim.Native.Nat.{_-_}
 use Rattle.text.specs.Text.{lineTests}
 use Rattle.text.specs.KindsInCode.{coded}
+use Rattle.lines.specs.LinesInCode.{endingBytes}
 use Rattle.reader.proofs.Bodies.{Turns, turns-first, turns-next, turns-stop, turns-last}
 use native.Mathlib.Omega.{arith}
 use Rattle.reader.proofs.judge_lines.Statement.{statement}
 use Rattle.reader.proofs.judge_lines.Tie as tie
 
 abbrev Inv-loop : tie.InvT-loop
-Inv-loop text at kind own count most next₀ i₀ next i = Turns text at (lineTests most) (coded kind) own count next i
+Inv-loop text at ending kind own count most next₀ i₀ next i = Turns (endingBytes ending) text at (lineTests most) (coded kind) own count next i
 
 abbrev μ-loop : tie.MeasureT-loop
-μ-loop text at kind own count most next₀ i₀ next i = count - i
+μ-loop text at ending kind own count most next₀ i₀ next i = count - i
 
 loop-holds : tie.Need-loop-holds Inv-loop μ-loop
-loop-holds c = turns-first _ _ _ _ _ _ (omega arith)
+loop-holds c = turns-first _ _ _ _ _ _ _ (omega arith)
 
 mul-judge-line : tie.Need-mul-judge-line Inv-loop μ-loop
 mul-judge-line c = omega arith
@@ -28,7 +29,7 @@ judge-line-requires c κs = omega arith
 returns : tie.Need-returns Inv-loop μ-loop
 returns c =
     let turn = c .before .before .before in
-    turns-stop _ _ _ _ _ _ (turn .before .loop .inv) (turn .loop-test .taken) (c .before .before .judge-line .ensures) (c .if1 .taken)
+    turns-stop _ _ _ _ _ _ _ (turn .before .loop .inv) (turn .loop-test .taken) (c .before .before .judge-line .ensures) (c .if1 .taken)
 
 add-i : tie.Need-add-i Inv-loop μ-loop
 add-i c = omega arith
@@ -39,10 +40,10 @@ loop-less c = omega arith
 loop-again : tie.Need-loop-again Inv-loop μ-loop
 loop-again c =
     let turn = c .before .before .before in
-    turns-next _ _ _ _ _ _ (turn .before .loop .inv) (turn .loop-test .taken) (c .before .before .judge-line .ensures) (c .if1 .left)
+    turns-next _ _ _ _ _ _ _ (turn .before .loop .inv) (turn .loop-test .taken) (c .before .before .judge-line .ensures) (c .if1 .left)
 
 returns-2 : tie.Need-returns-2 Inv-loop μ-loop
-returns-2 c = turns-last _ _ _ _ _ _ (c .before .loop .inv) (c .loop-test .left)
+returns-2 c = turns-last _ _ _ _ _ _ _ (c .before .loop .inv) (c .loop-test .left)
 
 pub judge-lines-spec : {M : Type 1} → statement M
 judge-lines-spec =

@@ -7,16 +7,17 @@ use native.Mathlib.Omega.{arith}
 use Rattle.circuit.specs.declared.Counts.{Counts}
 use Rattle.circuit.specs.Table.{input, kinds}
 use Rattle.reader.specs.ReaderInCode.{latchesOn, stand, Fillable}
+use Rattle.lines.specs.LinesInCode.{endingBytes}
 use Rattle.reader.proofs.Filling.{input-words, Filling, filling-first, filling-next, filling-last}
 use Rattle.reader.proofs.skip_inputs.Statement.{statement}
 use Rattle.reader.proofs.skip_inputs.Tie as tie
 
 abbrev Inv-loop : tie.InvT-loop
-Inv-loop text at next₀ i₀ i-end next i = (next ≤ length text)
-    × ((k : Counts) (table : List ℕ) → k .inputs ≡ i-end → Fillable text k (stand (kinds k) at 0 table) → Filling text k input 2 (k .inputs) (latchesOn k) (stand (kinds k) at 0 table) next 0 i table)
+Inv-loop text at ending next₀ i₀ i-end next i = (next ≤ length text)
+    × ((k : Counts) (table : List ℕ) → k .inputs ≡ i-end → Fillable (endingBytes ending) text k (stand (kinds k) at 0 table) → Filling (endingBytes ending) text k input 2 (k .inputs) (latchesOn k) (stand (kinds k) at 0 table) next 0 i table)
 
 abbrev μ-loop : tie.MeasureT-loop
-μ-loop text at next₀ i₀ i-end next i = i-end - i
+μ-loop text at ending next₀ i₀ i-end next i = i-end - i
 
 loop-holds : tie.Need-loop-holds Inv-loop μ-loop
 unfolding kinds
