@@ -8,7 +8,6 @@ use Rattle.three.specs.Value.{code, both, inverse, ternary}
 use Rattle.three.specs.Cube.{alike, allows, subsumes, blank}
 use Rattle.circuit.specs.Circuit.{signed, value, pass, settle, next}
 use Rattle.cubes.specs.Run.{hold, differing, due, switchesUnknown, nextCube, startField, start, reached, widened, store, stage, cubeAt, search, back, run}
-use Rattle.cubes.specs.OutcomesInCode.{isClosed}
 use Rattle.witness.specs.Ring.{following, ring}
 
 pub not-within : every 7 (λ k. not (isClosed (run (ring 4) (suc k) (k + 4)))) ≡ true
