@@ -6,10 +6,10 @@ use mathlib.Core.List.{List, [], _∷_}
 use Prim.Native.Nat.{ℕ, zero, suc, _≤_}
 use native.Mathlib.Omega.{arith}
 use lib.ListN.{length}
-use Rattle.three.specs.Lists.{tabulate}
+use Rattle.three.specs.Lists.{tabulate, Each, empty}
 use Rattle.three.specs.Value.{boolean}
 use Rattle.circuit.specs.declared.Counts.{Counts}
-use Rattle.circuit.specs.Circuit.{Circuit, signed, value, pass, settle, next, lamps, readings}
+use Rattle.circuit.specs.Circuit.{Circuit, signed, value, pass, settle, lamps, readings}
 use Rattle.circuit.specs.Table.{circuitOf, gatesFrom}
 use Rattle.text.specs.Outcome.{accepted}
 use Rattle.text.specs.Text.{Content, readText}
@@ -17,7 +17,7 @@ use Rattle.text.specs.Calls.{Reading}
 use Rattle.text.specs.Bench.{bytes, outcomeOf}
 use Rattle.text.proofs.Answers.{read-fits, reading-accepted}
 use Rattle.text.proofs.Determined.{reading-determined}
-use Rattle.cubes.specs.Execution.{settings, stateAfter, lampsAfter, resets}
+use Rattle.cubes.specs.Execution.{Allows, resets, Execution, settings, stateAfter, lampsAfter}
 use Rattle.witness.proofs.Cases.{circuit-read}
 use Rattle.witness.proofs.Switching.{off-with-inverse}
 use Rattle.bench.specs.Bench.{K·}
@@ -33,14 +33,17 @@ K-read = refl
 abbrev K-circuit : Circuit
 K-circuit = circuitOf (K-content .counts) (K-content .words)
 
-K-dark : (switches : ℕ → ℕ → Bool) (t : ℕ) → lampsAfter K-circuit switches (resets K-circuit) t ≡ false ∷ []
+K-dark : (e : Execution K-circuit) (t : ℕ) → lampsAfter e t ≡ false ∷ []
 unfolding lampsAfter stateAfter settings resets readings settle pass value signed boolean circuitOf gatesFrom tabulate
-K-dark switches zero = ap (λ (b : Bool). b ∷ []) (off-with-inverse (switches zero 0))
-K-dark switches (suc t) = ap (λ (b : Bool). b ∷ []) (off-with-inverse (switches (suc t) 0))
+K-dark e zero = dark (e .first) (e .allowed)
+  where
+    dark : (first : List Bool) → Each Allows [] first → lamps boolean K-circuit (settings e 0) first ≡ false ∷ []
+    dark [] empty = ap (λ (b : Bool). b ∷ []) (off-with-inverse (e .switches zero 0))
+K-dark e (suc t) = ap (λ (b : Bool). b ∷ []) (off-with-inverse (e .switches (suc t) 0))
 
 pub truly-dark : (table : List ℕ) → 16 ≤ length table → {number : ℕ} {counts : Counts} {table′ : List ℕ} → Reading (bytes K·) table number counts table′
-    → (switches : ℕ → ℕ → Bool) (t : ℕ) → lampsAfter (circuitOf counts table′) switches (resets (circuitOf counts table′)) t ≡ false ∷ []
-truly-dark table room {number} {counts} {table′} reading switches t =
+    → (e : Execution (circuitOf counts table′)) (t : ℕ) → lampsAfter e t ≡ false ∷ []
+truly-dark table room {number} {counts} {table′} reading =
     let is = reading-determined reading (reading-accepted (bytes K·) table (read-fits (bytes K·) table K-read (omega arith))) in
     let same : circuitOf counts table′ ≡ K-circuit = ap₂ circuitOf (is .1) (is .2) ∙ circuit-read (bytes K·) K-read table (omega arith) in
-    rw same (K-dark switches t)
+    rw same K-dark

@@ -15,7 +15,8 @@ use Rattle.circuit.specs.Circuit.{Circuit, next, lamps}
 use Rattle.circuit.proofs.Sound.{readings-sound}
 use Rattle.cubes.specs.Run.{switchesUnknown, nextCube, lampsIn, start, verdict, settled}
 use Rattle.cubes.specs.OutcomesInCode.{place}
-use Rattle.cubes.specs.Execution.{settings, stateAfter, lampsAfter}
+use Rattle.cubes.specs.Execution.{Execution, settings, stateAfter, lampsAfter}
+use Rattle.cubes.proofs.Allowed.{allowed-starts}
 use Rattle.cubes.proofs.Wider.{subsumes-widens, mergeFrom-widens}
 use Rattle.cubes.proofs.Places.{place-early, place-late, place-below, place-last, place-next}
 use Rattle.circuit.proofs.Pass.{readings-sized}
@@ -27,14 +28,14 @@ unfolding tabulate
 any-switches zero f = empty
 any-switches (suc n) f = also any (any-switches n (λ i. f (suc i)))
 
-module _ (c : Circuit) (switches : ℕ → ℕ → Bool) (t : ℕ) {cube : Cube} {state : List Bool} (within : cube ∋ state) where
-  next-within : nextCube c cube ∋ next boolean c (settings c switches t) state
+module _ {c : Circuit} (e : Execution c) (t : ℕ) {cube : Cube} {state : List Bool} (within : cube ∋ state) where
+  next-within : nextCube c cube ∋ next boolean c (settings e t) state
   unfolding nextCube switchesUnknown settings
-  next-within = readings-sound c _ _ _ _ _ (any-switches (c .inputs) (switches t)) within
+  next-within = readings-sound c _ _ _ _ _ (any-switches (c .inputs) (e .switches t)) within
 
-  lamps-within : lampsIn c cube ∋ lamps boolean c (settings c switches t) state
+  lamps-within : lampsIn c cube ∋ lamps boolean c (settings e t) state
   unfolding lampsIn switchesUnknown settings
-  lamps-within = readings-sound c _ _ _ _ _ (any-switches (c .inputs) (switches t)) within
+  lamps-within = readings-sound c _ _ _ _ _ (any-switches (c .inputs) (e .switches t)) within
 
 lamps-sized : (c : Circuit) (a : Cube) → length (lampsIn c a) ≡ length (c .lamps)
 unfolding lampsIn
@@ -69,21 +70,21 @@ module _ {c : Circuit} {cubes : ℕ → Cube} {n origin : ℕ} {follow : ℕ →
   visited-below zero = cover .starts .0
   visited-below (suc t) = cover .follows _ (visited-below t) .0
 
-  module _ (switches : ℕ → ℕ → Bool) {first : List Bool} (from : start c ∋ first) where
-    pub visited-covers : (t : ℕ) → cubes (visited origin follow t) ∋ stateAfter c switches first t
+  module _ (e : Execution c) where
+    pub visited-covers : (t : ℕ) → cubes (visited origin follow t) ∋ stateAfter e t
     unfolding stateAfter visited
-    visited-covers zero = subsumes-widens _ (cover .starts .1) from
-    visited-covers (suc t) = subsumes-widens _ (cover .follows _ (visited-below t) .1) (next-within c switches t (visited-covers t))
+    visited-covers zero = subsumes-widens _ (cover .starts .1) (allowed-starts c (e .allowed))
+    visited-covers (suc t) = subsumes-widens _ (cover .follows _ (visited-below t) .1) (next-within e t (visited-covers t))
 
-    verdict-covers : (t : ℕ) → verdict c cubes n ∋ lampsAfter c switches first t
+    verdict-covers : (t : ℕ) → verdict c cubes n ∋ lampsAfter e t
     unfolding verdict lampsAfter
     verdict-covers t =
         mergeFrom-widens _ _ _ (λ k. lamps-sized c (cubes k)) 0 n (visited origin follow t) (omega arith)
-        (omega (arith, visited-below t)) (lamps-within c switches t (visited-covers t))
+        (omega (arith, visited-below t)) (lamps-within e t (visited-covers t))
 
     -- a lamp of known verdict has that value at every tick
-    pub lamp-known : (i : ℕ) (v : Bool) → getD (verdict c cubes n) i unknown ≡ known v → (t : ℕ) → getD (lampsAfter c switches first t) i false ≡ v
-    lamp-known i v e t = known-at (verdict-covers t) i v e
+    pub lamp-known : (i : ℕ) (v : Bool) → getD (verdict c cubes n) i unknown ≡ known v → (t : ℕ) → getD (lampsAfter e t) i false ≡ v
+    lamp-known i v is t = known-at (verdict-covers t) i v is
 
 -- ---- closed chains
 
@@ -117,16 +118,16 @@ module _ {c : Circuit} {cubes : ℕ → Cube} {n j : ℕ} (chain : Chain c cubes
           let last : suc k ≡ n = omega arith in
           rw (last, place-last n j (chain .below)) (chain .returns k last)
 
-  module _ (switches : ℕ → ℕ → Bool) {first : List Bool} (from : start c ∋ first) where
-    pub place-covers : (t : ℕ) → cubes (place n j t) ∋ stateAfter c switches first t
-    place-covers t = rw (visited-place n j t (chain .below)) at (visited-covers chain-cover switches from t)
+  module _ (e : Execution c) where
+    pub place-covers : (t : ℕ) → cubes (place n j t) ∋ stateAfter e t
+    place-covers t = rw (visited-place n j t (chain .below)) at (visited-covers chain-cover e t)
 
-    settled-covers : (t : ℕ) → j ≤ t → settled c cubes n j ∋ stateAfter c switches first t
+    settled-covers : (t : ℕ) → j ≤ t → settled c cubes n j ∋ stateAfter e t
     unfolding settled
     settled-covers t late =
         mergeFrom-widens _ cubes _ (chain .sized) j (n - j) (place n j t) (omega (arith, place-late n j t late))
         (omega (arith, place-below n j t (chain .below))) (place-covers t)
 
     -- a settled latch has its value at every tick from j on
-    pub latch-known : (i : ℕ) (v : Bool) → getD (settled c cubes n j) i unknown ≡ known v → (t : ℕ) → j ≤ t → getD (stateAfter c switches first t) i false ≡ v
-    latch-known i v e t late = known-at (settled-covers t late) i v e
+    pub latch-known : (i : ℕ) (v : Bool) → getD (settled c cubes n j) i unknown ≡ known v → (t : ℕ) → j ≤ t → getD (stateAfter e t) i false ≡ v
+    latch-known i v is t late = known-at (settled-covers t late) i v is

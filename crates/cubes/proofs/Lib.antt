@@ -4,6 +4,7 @@ pub mod Growing
 pub mod Closes
 pub mod Places
 pub mod Cover
+pub mod Allowed
 pub mod Promise
 pub mod Pairs
 pub mod StoredCube

@@ -1,16 +1,14 @@
 -- What a closed run promises of every execution, stated over the run's own cubes, which are a closed chain. Assumes nothing.
 use mathlib.Core.Path.{_≡_}
 use mathlib.Core.Bool.{Bool, false}
-use mathlib.Core.List.{List}
-use Prim.Native.Nat.{ℕ, zero, suc, _+_, _-_, _%_, _≤_, _<_}
+use Prim.Native.Nat.{ℕ, _+_, _-_, _%_, _≤_, _<_}
 use native.Mathlib.Omega.{arith}
 use lib.ListN.{getD}
 use Rattle.three.specs.Value.{unknown, known}
-use Rattle.three.specs.Cube.{Holds, off, on, _∋_}
-use Rattle.three.proofs.Lists.{each-map}
-use Rattle.circuit.specs.Circuit.{Circuit, Latch}
-use Rattle.cubes.specs.Run.{startField, start, stage, cubeAt, stops, run, verdict, settled}
-use Rattle.cubes.specs.Execution.{stateAfter, lampsAfter, resetBit, resets}
+use Rattle.three.specs.Cube.{_∋_}
+use Rattle.circuit.specs.Circuit.{Circuit}
+use Rattle.cubes.specs.Run.{start, stage, cubeAt, stops, run, verdict, settled}
+use Rattle.cubes.specs.Execution.{Execution, stateAfter, lampsAfter}
 use Rattle.cubes.specs.OutcomesInCode.{place}
 use Rattle.cubes.proofs.Steps.{found, Ran, stays, closes, ran}
 use Rattle.cubes.proofs.Wider.{cube-sized}
@@ -19,17 +17,6 @@ use Rattle.three.proofs.Merge.{subsumes-self}
 use Rattle.three.proofs.Subsuming.{subsumes-trans}
 use Rattle.cubes.proofs.Places.{place-early, place-late}
 use Rattle.cubes.proofs.Cover.{Chain, chain-cover, place-covers, lamp-known, latch-known}
-
--- ---- executions start in cube 0
-
-reset-holds : (n : ℕ) → Holds (startField n) (resetBit n)
-unfolding startField resetBit
-reset-holds zero = off
-reset-holds (suc n) = on
-
-pub resets-start : (c : Circuit) → start c ∋ resets c
-unfolding start resets
-resets-start c = each-map _ _ (λ (l : Latch). reset-holds (l .reset)) (c .latches)
 
 -- ---- a closed run is a closed chain
 
@@ -46,28 +33,28 @@ chain-of c w (closes {k = k} past l) =
       below = there .0;
     }
 
--- ---- the promises, for any switches and any first state in cube 0
+-- ---- the promises, for any execution
 
 module _ (c : Circuit) (w room n j : ℕ) (run-closed : run c w room ≡ stops n j) where
   run-chain : Chain c (cubeAt c w) n j
   run-chain = chain-of c w (rw run-closed at (ran c w room))
 
-  module _ (switches : ℕ → ℕ → Bool) (first : List Bool) (from : start c ∋ first) where
+  module _ (e : Execution c) where
     -- the state after t ticks lies in the cube for tick t
-    pub covered : (t : ℕ) → cubeAt c w (place n j t) ∋ stateAfter c switches first t
-    covered = place-covers run-chain switches from
+    pub covered : (t : ℕ) → cubeAt c w (place n j t) ∋ stateAfter e t
+    covered = place-covers run-chain e
 
     -- which is cube t if t < n, else cube j + ((t − j) mod (n − j))
-    pub covered-early : (t : ℕ) → t < n → cubeAt c w t ∋ stateAfter c switches first t
+    pub covered-early : (t : ℕ) → t < n → cubeAt c w t ∋ stateAfter e t
     covered-early t early = rw (place-early n j t (run-chain .below) early) at (covered t)
 
-    pub covered-late : (t : ℕ) → n ≤ t → cubeAt c w (j + (t - j) % (n - j)) ∋ stateAfter c switches first t
+    pub covered-late : (t : ℕ) → n ≤ t → cubeAt c w (j + (t - j) % (n - j)) ∋ stateAfter e t
     covered-late t late = rw (place-late n j t (omega (arith, run-chain .below))) at (covered t)
 
     -- a lamp judged never (false) or always (true) is so at every tick
-    pub lamp-judged : (i : ℕ) (v : Bool) → getD (verdict c (cubeAt c w) n) i unknown ≡ known v → (t : ℕ) → getD (lampsAfter c switches first t) i false ≡ v
-    lamp-judged = lamp-known (chain-cover run-chain) switches from
+    pub lamp-judged : (i : ℕ) (v : Bool) → getD (verdict c (cubeAt c w) n) i unknown ≡ known v → (t : ℕ) → getD (lampsAfter e t) i false ≡ v
+    lamp-judged = lamp-known (chain-cover run-chain) e
 
     -- a settled latch has its value at every tick from j on
-    pub latch-settled : (i : ℕ) (v : Bool) → getD (settled c (cubeAt c w) n j) i unknown ≡ known v → (t : ℕ) → j ≤ t → getD (stateAfter c switches first t) i false ≡ v
-    latch-settled = latch-known run-chain switches from
+    pub latch-settled : (i : ℕ) (v : Bool) → getD (settled c (cubeAt c w) n j) i unknown ≡ known v → (t : ℕ) → j ≤ t → getD (stateAfter e t) i false ≡ v
+    latch-settled = latch-known run-chain e

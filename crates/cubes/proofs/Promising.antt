@@ -1,6 +1,6 @@
 -- The promises of the run's contract, over the answers and the bytes that the call leaves. Assumes nothing.
 use mathlib.Core.Path.{_≡_, refl, sym, ap, ap₂, _∙_}
-use mathlib.Core.Bool.{Bool, true}
+use mathlib.Core.Bool.{true}
 use mathlib.Core.List.{List}
 use Prim.Native.Nat.{ℕ, zero, suc, _+_, _*_, _-_, _%_, _<_, _≤_}
 use native.Mathlib.Nat.{mod-lt}
@@ -18,9 +18,10 @@ use Rattle.cubes.specs.declared.RunAnswer.{RunAnswer}
 use Rattle.cubes.specs.Run.{cubeAt, Ending, stops, full, verdict, settled}
 use Rattle.cubes.specs.Buffer.{cubeIn, packCubes}
 use Rattle.cubes.specs.Call.{roomIn, storedCubes, outcomeNumber, RunGiven, refusedBy, circuitIn, outcomeIn, cubesIn, backIn, verdictFields, settledFields, Runs}
+use Rattle.cubes.specs.Execution.{Execution}
 use Rattle.cubes.specs.OutcomesInCode.{hasStopped}
 use Rattle.cubes.specs.Promise.{mostCubes, Covered, Promises}
-use Rattle.cubes.proofs.Promise.{resets-start, covered-early, covered-late, lamp-judged, latch-settled}
+use Rattle.cubes.proofs.Promise.{covered-early, covered-late, lamp-judged, latch-settled}
 use Rattle.cubes.proofs.Closes.{run-closes, most-within}
 use Rattle.cubes.proofs.Buffered.{cubes-sized, lamps-counted, cube-in, latches-counted, literals-counted, stopped-is, stopped-within}
 use Rattle.cubes.proofs.Wider.{mergeFrom-sized}
@@ -109,16 +110,15 @@ module _ (g : RunGiven) (r : RunAnswer) (cubes verdict′ settled′ : List ℕ)
     unfolding settledFields
     count-is = runs .settles ∙ written _ _ ∙ ap knownFields (ap₂ (settled (circuitIn g) (cubeAt (circuitIn g) (g .w))) (sym n-is) (sym j-is))
 
-    run-covers : (switches : ℕ → ℕ → Bool) → Covered g r cubes verdict′ settled′ switches
+    run-covers : (e : Execution (circuitIn g)) → Covered g r cubes verdict′ settled′ e
     unfolding outcomeIn
-    run-covers switches =
-        let from = resets-start (circuitIn g) in
+    run-covers e =
         let room : ℕ = roomIn (g .counts) (g .cubes) in
         record {
-          early = λ t h. rw (← cube-is t h) (covered-early (circuitIn g) (g .w) room _ _ outcome-is switches _ from t h);
-          late = λ t h. rw (← cube-is _ (in-loop t)) (covered-late (circuitIn g) (g .w) room _ _ outcome-is switches _ from t h);
-          judged = λ i v e. lamp-judged (circuitIn g) (g .w) room _ _ outcome-is switches _ from i v (rw verdict-is at e);
-          keeps = λ i v e. latch-settled (circuitIn g) (g .w) room _ _ outcome-is switches _ from i v (rw settled-is at e);
+          early = λ t h. rw (← cube-is t h) (covered-early (circuitIn g) (g .w) room _ _ outcome-is e t h);
+          late = λ t h. rw (← cube-is _ (in-loop t)) (covered-late (circuitIn g) (g .w) room _ _ outcome-is e t h);
+          judged = λ i v is. lamp-judged (circuitIn g) (g .w) room _ _ outcome-is e i v (rw verdict-is at is);
+          keeps = λ i v is. latch-settled (circuitIn g) (g .w) room _ _ outcome-is e i v (rw settled-is at is);
         }
       where
         in-loop : (t : ℕ) → r .back + (t - r .back) % (r .cubes - r .back) < r .cubes

@@ -1,30 +1,35 @@
--- What really happens: a Boolean execution under any switch sequence, and the cube that a run has for each tick. Assumes nothing.
+-- What really happens: a Boolean execution under any switch sequence, from a state that the resets allow. Assumes nothing.
 use mathlib.Core.Bool.{Bool, true, false}
 use mathlib.Core.List.{List, map}
 use Prim.Native.Nat.{ℕ, zero, suc}
-use Rattle.three.specs.Lists.{tabulate}
+use Rattle.three.specs.Lists.{tabulate, Each}
 use Rattle.three.specs.Value.{boolean}
 use Rattle.circuit.specs.Circuit.{Circuit, Latch, next, lamps}
 
-module _ (c : Circuit) (switches : ℕ → ℕ → Bool) where
-  -- the switch settings at tick t: `switches t i` is switch i
-  unfoldable pub settings : ℕ → List Bool
-  settings t = tabulate (c .inputs) (switches t)
+-- a reset allows its own bit
+pub data Allows : ℕ → Bool → Type 0 where
+  off : Allows 0 false
+  on : Allows 1 true
 
-  -- the state after t ticks from a first one
-  unfoldable pub stateAfter : List Bool → ℕ → List Bool
-  stateAfter first zero = first
-  stateAfter first (suc t) = next boolean c (settings t) (stateAfter first t)
+unfoldable pub resets : Circuit → List ℕ
+resets c = map (λ (l : Latch). l .reset) (c .latches)
+
+-- `switches t i` is switch i at tick t
+pub record Execution (c : Circuit) : Type 0 where
+  pub switches : ℕ → ℕ → Bool
+  pub first : List Bool
+  pub allowed : Each Allows (resets c) first
+
+module _ {c : Circuit} (e : Execution c) where
+  -- the switch settings at tick t
+  unfoldable pub settings : ℕ → List Bool
+  settings t = tabulate (c .inputs) (e .switches t)
+
+  -- the state after t ticks
+  unfoldable pub stateAfter : ℕ → List Bool
+  stateAfter zero = e .first
+  stateAfter (suc t) = next boolean c (settings t) (stateAfter t)
 
   -- the lamps at tick t
-  unfoldable pub lampsAfter : List Bool → ℕ → List Bool
-  lampsAfter first t = lamps boolean c (settings t) (stateAfter first t)
-
--- a reset as a bit
-unfoldable pub resetBit : ℕ → Bool
-resetBit zero = false
-resetBit (suc n) = true
-
--- the state that the resets give
-unfoldable pub resets : Circuit → List Bool
-resets c = map (λ (l : Latch). resetBit (l .reset)) (c .latches)
+  unfoldable pub lampsAfter : ℕ → List Bool
+  lampsAfter t = lamps boolean c (settings t) (stateAfter t)

@@ -10,7 +10,7 @@ use Rattle.three.specs.Record.{unpack}
 use Rattle.cubes.specs.declared.RunAnswer.{RunAnswer}
 use Rattle.cubes.specs.Buffer.{cubeIn}
 use Rattle.cubes.specs.Call.{RunGiven, circuitIn, roomIn, refusedBy}
-use Rattle.cubes.specs.Execution.{stateAfter, lampsAfter, resets}
+use Rattle.cubes.specs.Execution.{Execution, stateAfter, lampsAfter}
 
 -- the most cubes that a run takes with w at least 1: one where there is no latch, else w and one for each latch
 unfoldable pub mostCubes : ℕ → ℕ → ℕ
@@ -18,21 +18,21 @@ mostCubes w zero = 1
 mostCubes w (suc latches) = w + suc latches
 
 module _ (g : RunGiven) (r : RunAnswer) (cubes verdict settled : List ℕ) where
-  -- One execution from the resets: `switches t i` is switch i at tick t.
-  pub record Covered (switches : ℕ → ℕ → Bool) : Type 0 where
+  -- One execution
+  pub record Covered (e : Execution (circuitIn g)) : Type 0 where
     -- the state after t ticks lies in cube t, or in the loop's cube for it
-    pub early : (t : ℕ) → t < r .cubes → cubeIn (g .counts .latches) cubes t ∋ stateAfter (circuitIn g) switches (resets (circuitIn g)) t
-    pub late : (t : ℕ) → r .cubes ≤ t → cubeIn (g .counts .latches) cubes (r .back + (t - r .back) % (r .cubes - r .back)) ∋ stateAfter (circuitIn g) switches (resets (circuitIn g)) t
+    pub early : (t : ℕ) → t < r .cubes → cubeIn (g .counts .latches) cubes t ∋ stateAfter e t
+    pub late : (t : ℕ) → r .cubes ≤ t → cubeIn (g .counts .latches) cubes (r .back + (t - r .back) % (r .cubes - r .back)) ∋ stateAfter e t
     -- "never" (false) is dark at every tick, "always" (true) lit
     pub judged : (i : ℕ) (v : Bool) → getD (unpack (g .counts .lamps) verdict) i unknown ≡ known v
-        → (t : ℕ) → getD (lampsAfter (circuitIn g) switches (resets (circuitIn g)) t) i false ≡ v
+        → (t : ℕ) → getD (lampsAfter e t) i false ≡ v
     -- a settled latch keeps its value from tick j on
     pub keeps : (i : ℕ) (v : Bool) → getD (unpack (g .counts .latches) settled) i unknown ≡ known v
-        → (t : ℕ) → r .back ≤ t → getD (stateAfter (circuitIn g) switches (resets (circuitIn g)) t) i false ≡ v
+        → (t : ℕ) → r .back ≤ t → getD (stateAfter e t) i false ≡ v
 
   pub record Promises : Type 0 where
-    -- a closed run covers every execution
-    pub covers : r .number ≡ 0 → (switches : ℕ → ℕ → Bool) → Covered switches
+    -- a closed run covers every execution, under any switch sequence
+    pub covers : r .number ≡ 0 → (e : Execution (circuitIn g)) → Covered e
     -- with w at least 1 and room for w × L + 1 cubes a run that is not refused closes within them
     pub closes : refusedBy g ≡ 0 → 1 ≤ g .w → g .w * g .counts .latches + 1 ≤ roomIn (g .counts) (g .cubes)
         → (r .number ≡ 0) × (r .cubes ≤ g .w * g .counts .latches + 1)

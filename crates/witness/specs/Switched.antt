@@ -1,13 +1,15 @@
 -- A circuit whose lamp lights only where its switch changes: a latch keeps what the switch was, and the lamp is on where the latch is
 -- on and the switch is off. As a text: aag 3 1 1 1 1/2/4 2/6/6 4 3/. Assumes nothing.
-use mathlib.Core.Bool.{Bool}
+use mathlib.Core.Bool.{Bool, false}
 use mathlib.Core.List.{List, [], _∷_}
 use Prim.Native.Nat.{ℕ}
 use lib.Dec.{eqb}
+use Rattle.three.specs.Lists.{tabulate, empty, also}
 use Rattle.circuit.specs.declared.Counts.{Counts}
 use Rattle.circuit.specs.Circuit.{Circuit}
 use Rattle.circuit.specs.Table.{circuitOf}
 use Rattle.cubes.specs.Call.{RunGiven}
+use Rattle.cubes.specs.Execution.{off, resets, Execution}
 
 abbrev pub counts : Counts
 counts = record { inputs = 1; latches = 1; lamps = 1; gates = 1 }
@@ -22,9 +24,14 @@ circuit = circuitOf counts words
 abbrev pub given : ℕ → List ℕ → List ℕ → List ℕ → RunGiven
 given w cubes verdict settled = record { counts = counts; table = words; w = w; cubes = cubes; verdict = verdict; settled = settled }
 
--- switch settings at each tick: always the same, and on at tick t alone
-abbrev pub always : Bool → ℕ → ℕ → Bool
-always v tick switch = v
+-- the execution under such a switch, off at first
+unfoldable pub under : (ℕ → Bool) → Execution circuit
+unfolding resets circuitOf tabulate
+under switch = record { switches = λ tick i. switch tick; first = false ∷ []; allowed = also off empty }
 
-abbrev pub once : ℕ → ℕ → ℕ → Bool
-once t tick switch = eqb tick t
+-- whose switch is always the same, or on at tick t alone
+abbrev pub always : Bool → Execution circuit
+always v = under (λ tick. v)
+
+abbrev pub once : ℕ → Execution circuit
+once t = under (λ tick. eqb tick t)

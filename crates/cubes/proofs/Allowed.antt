@@ -1,0 +1,91 @@
+-- The resets allow exactly the states inside cube 0, which today is one; from an accepted table every switch sequence has an execution. Assumes nothing.
+use mathlib.Core.Path.{_≡_, refl, ap₂}
+use mathlib.Core.Bool.{Bool, true, false}
+use mathlib.Core.List.{List, [], _∷_, map}
+use Prim.Native.Nat.{ℕ, zero, suc, _+_, _*_, _<_, _≤_}
+use native.Mathlib.Decide.{decLt}
+use native.Mathlib.Omega.{arith}
+use lib.ListN.{getD}
+use Rattle.three.specs.Lists.{Each, empty, also, tabulate}
+use Rattle.three.specs.Cube.{Holds, off, on, _∋_}
+use Rattle.three.proofs.Lists.{getD-tabulate, getD-beyond, map-tabulate, each-map}
+use Rattle.circuit.specs.declared.Counts.{Counts}
+use Rattle.circuit.specs.Circuit.{Circuit, Latch}
+use Rattle.circuit.specs.Table.{circuitOf}
+use Rattle.circuit.specs.RulesInCode.{Legal}
+use Rattle.cubes.specs.Run.{startField, start}
+use Rattle.cubes.specs.Execution.{Allows, off, on, resets, Execution}
+
+-- ---- one latch
+
+allows-holds : {r : ℕ} {b : Bool} → Allows r b → Holds (startField r) b
+unfolding startField
+allows-holds Allows.off = Holds.off
+allows-holds Allows.on = Holds.on
+
+holds-allows : (r : ℕ) {b : Bool} → r ≤ 1 → Holds (startField r) b → Allows r b
+unfolding startField
+holds-allows zero small Holds.off = Allows.off
+holds-allows (suc zero) small Holds.on = Allows.on
+holds-allows (suc (suc r)) small h = absurd (omega arith)
+
+allows-one : {r : ℕ} {a b : Bool} → Allows r a → Allows r b → a ≡ b
+allows-one Allows.off Allows.off = refl
+allows-one Allows.on Allows.on = refl
+
+resetBit : ℕ → Bool
+resetBit zero = false
+resetBit (suc n) = true
+
+bit-holds : (r : ℕ) → Holds (startField r) (resetBit r)
+unfolding startField resetBit
+bit-holds zero = Holds.off
+bit-holds (suc n) = Holds.on
+
+-- ---- all of them
+
+pub allowed-one : {rs : List ℕ} {s s′ : List Bool} → Each Allows rs s → Each Allows rs s′ → s ≡ s′
+allowed-one empty empty = refl
+allowed-one (also a as′) (also b bs) = ap₂ (λ (x : Bool) (xs : List Bool). x ∷ xs) (allows-one a b) (allowed-one as′ bs)
+
+module _ (c : Circuit) where
+  pub allowed-starts : {s : List Bool} → Each Allows (resets c) s → start c ∋ s
+  unfolding start resets
+  allowed-starts h = go (c .latches) h
+    where
+      go : (ls : List Latch) {s : List Bool} → Each Allows (map (λ (l : Latch). l .reset) ls) s → map (λ (l : Latch). startField (l .reset)) ls ∋ s
+      go [] empty = empty
+      go (l ∷ ls) (also a rest) = also (allows-holds a) (go ls rest)
+
+  -- where no reset is above 1
+  pub starts-allowed : ((i : ℕ) → getD (resets c) i 0 ≤ 1) → {s : List Bool} → start c ∋ s → Each Allows (resets c) s
+  unfolding start resets
+  starts-allowed small h = go (c .latches) small h
+    where
+      go : (ls : List Latch) → ((i : ℕ) → getD (map (λ (l : Latch). l .reset) ls) i 0 ≤ 1) → {s : List Bool} → map (λ (l : Latch). startField (l .reset)) ls ∋ s
+          → Each Allows (map (λ (l : Latch). l .reset) ls) s
+      go [] small empty = empty
+      go (l ∷ ls) small (also h hs) = also (holds-allows (l .reset) (small 0) h) (go ls (λ i. small (suc i)) hs)
+
+-- ---- from an accepted table
+
+module _ (c : Counts) (words : List ℕ) (legal : Legal c words) where
+  resets-small : (i : ℕ) → getD (resets (circuitOf c words)) i 0 ≤ 1
+  unfolding resets circuitOf
+  resets-small i = rw map-tabulate (go (decLt i (c .latches)))
+    where
+      reset : ℕ → ℕ
+      reset k = getD words (2 * k + 1) 0
+
+      go : Dec (i < c .latches) → getD (tabulate (c .latches) reset) i 0 ≤ 1
+      go (yes h) = rw (getD-tabulate (c .latches) reset i 0 h) (legal .reset i h)
+      go (no h) = rw (getD-beyond (c .latches) reset i 0 (omega arith)) (omega arith)
+
+  -- the execution under these switches
+  pub executes : (ℕ → ℕ → Bool) → Execution (circuitOf c words)
+  unfolding start
+  executes switches = record {
+    switches = switches;
+    first = map (λ (l : Latch). resetBit (l .reset)) (circuitOf c words .latches);
+    allowed = starts-allowed (circuitOf c words) resets-small (each-map _ _ (λ (l : Latch). bit-holds (l .reset)) (circuitOf c words .latches));
+  }
