@@ -10,7 +10,7 @@ use lib.Dec.{ltb, eqb}
 use lib.ListN.{length, getD, take}
 use Rattle.three.proofs.Lists.{by-test}
 use Rattle.circuit.specs.declared.Counts.{Counts}
-use Rattle.circuit.specs.Table.{top, Kind, input, latch, lamp, gate, several, kinds}
+use Rattle.circuit.specs.Table.{top, Kind, input, latch, literal, gate, several, kinds}
 use Rattle.circuit.specs.Refusal.{refusal}
 use Rattle.text.specs.Part.{Part, got, ill}
 use Rattle.text.specs.Line.{strip, splitLine}
@@ -83,7 +83,7 @@ no-numbers : (k : Kind) → fits k 0 ≡ false
 unfolding fits
 no-numbers (input own) = refl
 no-numbers (latch own) = refl
-no-numbers lamp = refl
+no-numbers literal = refl
 no-numbers (gate own) = refl
 
 pub line-judged : (text : List ℕ) (at most : ℕ) (k : Kind) (l : ReadLine) (n : ℕ) → LineFound text (splitLine 3 (from text at)) l → n ≡ refusal (lineTests most k (numbersOf l))

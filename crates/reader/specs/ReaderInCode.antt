@@ -6,7 +6,7 @@ use Prim.Native.Nat.{ℕ, _+_, _*_, _≤_, _<_}
 use lib.ListN.{length, getD}
 use lib.Seq.{sets}
 use Rattle.circuit.specs.declared.Counts.{Counts}
-use Rattle.circuit.specs.Table.{top, Kind, latch, lamp, gate, several, kinds}
+use Rattle.circuit.specs.Table.{top, Kind, latch, literal, gate, several, kinds, literals}
 use Rattle.circuit.specs.RulesInCode.{Bounded}
 use Rattle.reader.specs.declared.Judged.{Judged}
 use Rattle.reader.specs.declared.Judgement.{Judgement}
@@ -66,7 +66,7 @@ abbrev pub gatesOn : Counts → List Kind
 gatesOn c = several gate (2 + 2 * c .inputs + 2 * c .latches) (c .gates) []
 
 abbrev pub lampsOn : Counts → List Kind
-lampsOn c = several (λ own. lamp) 0 (c .lamps) (gatesOn c)
+lampsOn c = several (λ own. literal) 0 (literals c) (gatesOn c)
 
 abbrev pub latchesOn : Counts → List Kind
 latchesOn c = several latch (2 + 2 * c .inputs) (c .latches) (lampsOn c)

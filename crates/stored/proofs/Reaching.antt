@@ -14,7 +14,7 @@ use Rattle.three.proofs.Lists.{tabulate-ext}
 use Rattle.three.proofs.Pack.{length-pack}
 use Rattle.circuit.specs.declared.Counts.{Counts}
 use Rattle.circuit.specs.Circuit.{Circuit, pass, settle}
-use Rattle.circuit.specs.Table.{circuitOf}
+use Rattle.circuit.specs.Table.{circuitOf, literalsAt}
 use Rattle.circuit.specs.RulesInCode.{Legal}
 use Rattle.circuit.proofs.Pass.{length-pass, pass-front}
 use Rattle.pass.specs.ValuesInCode.{valuesOf, Begins, literalValues}
@@ -80,6 +80,6 @@ module _ (c : Counts) (words : List ℕ) (legal : Legal c words) (state : Cube) 
 
 module _ (c : Counts) (words : List ℕ) (legal : Legal c words) (state : Cube) (sized : length state ≡ c .latches) (t : List ℕ) where
   pub lamps-reached : Begins t (settle ternary (circuitOf c words) (switchesUnknown (circuitOf c words)) state)
-      → literalValues (valuesOf t) words (2 * c .latches) 1 (c .lamps) ≡ lampsIn (circuitOf c words) state
+      → literalValues (valuesOf t) words (literalsAt c) 1 (c .lamps) ≡ lampsIn (circuitOf c words) state
   unfolding lampsIn
   lamps-reached begins = lamps-stored c words legal (switchesUnknown (circuitOf c words)) state (unfold switchesUnknown circuitOf in length-replicate (c .inputs) unknown) sized t begins

@@ -8,7 +8,7 @@ use borrow.Author.Tests.{leb-true, le-leb, lt-leb}
 use lib.Dec.{leb}
 use lib.ListN.{length}
 use Rattle.circuit.specs.Refusal.{_or_, refusal, Passed}
-use Rattle.circuit.specs.Table.{top, ceilingTests, Kind, input, latch, lamp, gate, kinds, rowTests}
+use Rattle.circuit.specs.Table.{top, ceilingTests, Kind, input, latch, literal, gate, kinds, rowTests}
 use Rattle.circuit.proofs.Refusals.{Numbered, stops, past, none}
 use Rattle.text.specs.Part.{got, ill}
 use Rattle.text.specs.Line.{splitLine}
@@ -60,7 +60,7 @@ module _ (most : ℕ) (k : Kind) (ks : List Kind) (t : List ℕ) where
 
   numbered : (ns : List ℕ) → Numbered (lineTests most k ns)
   unfolding lineTests rowTests
-  numbered ns = elim k [ input own ↦ omega arith | latch own ↦ omega arith | gate own ↦ omega arith | lamp ↦ omega arith ]
+  numbered ns = elim k [ input own ↦ omega arith | latch own ↦ omega arith | gate own ↦ omega arith | literal ↦ omega arith ]
 
   pub line-accepted : {ws : List ℕ} → readBody most (k ∷ ks) t ≡ accepted ws → LineRead ws
   unfolding readBody

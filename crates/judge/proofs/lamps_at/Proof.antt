@@ -22,13 +22,13 @@ settle-state-requires c κs =
     let pre = c .before .before .before .before .before .pre in
     (pre .0, rw part-tail (pre .2), pre .3 .working)
 
-mul-store : tie.Need-mul-store
-mul-store c = search needs
+literals-at-requires : tie.Need-literals-at-requires
+literals-at-requires c κs = search needs
 
 store-requires : tie.Need-store-requires
 store-requires c κs =
     let pre = c .before .before .before .before .before .before .before .before .before .pre in
-    (lamps-readable _ _ (pre .0), c .before .before .before .settle-state .ensures .working, omega arith, pre .4)
+    (rw (c .before .before .literals-at .ensures) (lamps-readable _ _ (pre .0)), c .before .before .before .settle-state .ensures .working, omega arith, pre .4)
 
 same-length : tie.Need-same-length
 same-length c = search needs
@@ -37,7 +37,7 @@ returns : tie.Need-returns
 returns c =
     let pre = c .before .before .before .before .before .before .before .before .before .before .before .before .pre in
     let begins = ready-settles _ _ _ _ _ (pre .3) (rw part-tail at (c .before .before .before .before .before .before .settle-state .ensures)) in
-    (ready-again _ _ _ _ begins, over-fields _ (c .before .before .store .ensures) (lamps-reached _ _ (pre .0) _ (length-unpack _ _) _ begins))
+    (ready-again _ _ _ _ begins, over-fields _ (rw (c .before .before .before .before .before .literals-at .ensures) at (c .before .before .store .ensures)) (lamps-reached _ _ (pre .0) _ (length-unpack _ _) _ begins))
 
 pub lamps-at-spec : {M : Type 1} → statement M
 lamps-at-spec =
@@ -47,7 +47,7 @@ lamps-at-spec =
     part-settle-state-start
     part-settle-state-end
     settle-state-requires
-    mul-store
+    literals-at-requires
     store-requires
     same-length
     returns)

@@ -45,28 +45,31 @@ returns-2 c =
     let inputs = latches .before .before .before in
     stop-latches _ _ _ (inputs .judge-lines .ensures) (latches .before .if1 .left) (latches .judge-lines2 .ensures) (c .if2 .taken)
 
+literals-requires : tie.Need-literals-requires
+literals-requires c κs = search needs
+
 judge-lines-requires-3 : tie.Need-judge-lines-requires-3
 judge-lines-requires-3 c κs = search needs
 
 returns-3 : tie.Need-returns-3
 returns-3 c =
     let lamps = c .before .before in
-    let latches = lamps .before .before .before in
+    let latches = lamps .before .before .before .before in
     let inputs = latches .before .before .before in
-    stop-lamps _ _ _ (inputs .judge-lines .ensures) (latches .before .if1 .left) (latches .judge-lines2 .ensures) (lamps .before .if2 .left) (lamps .judge-lines3 .ensures) (c .if3 .taken)
+    stop-lamps _ _ _ (inputs .judge-lines .ensures) (latches .before .if1 .left) (latches .judge-lines2 .ensures) (lamps .before .before .if2 .left) (rw (lamps .before .literals .ensures) at (lamps .judge-lines3 .ensures)) (c .if3 .taken)
 
 judge-lines-requires-4 : tie.Need-judge-lines-requires-4
 judge-lines-requires-4 c κs =
-    let start = c .before .before .before .before .before .before .before .before .before .before .before .before .before .before in
+    let start = c .before .before .before .before .before .before .before .before .before .before .before .before .before .before .before in
     (omega arith, omega (arith, start .pre .0))
 
 returns-4 : tie.Need-returns-4
 returns-4 c =
     let gates = c .before .before in
     let lamps = gates .before .before .before in
-    let latches = lamps .before .before .before in
+    let latches = lamps .before .before .before .before in
     let inputs = latches .before .before .before in
-    stop-gates _ _ _ (inputs .judge-lines .ensures) (latches .before .if1 .left) (latches .judge-lines2 .ensures) (lamps .before .if2 .left) (lamps .judge-lines3 .ensures) (gates .before .if3 .left) (gates .judge-lines4 .ensures) (c .if4 .taken)
+    stop-gates _ _ _ (inputs .judge-lines .ensures) (latches .before .if1 .left) (latches .judge-lines2 .ensures) (lamps .before .before .if2 .left) (rw (lamps .before .literals .ensures) at (lamps .judge-lines3 .ensures)) (gates .before .if3 .left) (gates .judge-lines4 .ensures) (c .if4 .taken)
 
 ended-requires : tie.Need-ended-requires
 ended-requires c κs = search needs
@@ -75,17 +78,17 @@ returns-5 : tie.Need-returns-5
 returns-5 c =
     let gates = c .before .before .before .before in
     let lamps = gates .before .before .before in
-    let latches = lamps .before .before .before in
+    let latches = lamps .before .before .before .before in
     let inputs = latches .before .before .before in
-    end-over _ _ _ (inputs .judge-lines .ensures) (latches .before .if1 .left) (latches .judge-lines2 .ensures) (lamps .before .if2 .left) (lamps .judge-lines3 .ensures) (gates .before .if3 .left) (gates .judge-lines4 .ensures) (c .before .before .if4 .left) (c .before .ended .ensures) (not-true _ (c .if5 .taken))
+    end-over _ _ _ (inputs .judge-lines .ensures) (latches .before .if1 .left) (latches .judge-lines2 .ensures) (lamps .before .before .if2 .left) (rw (lamps .before .literals .ensures) at (lamps .judge-lines3 .ensures)) (gates .before .if3 .left) (gates .judge-lines4 .ensures) (c .before .before .if4 .left) (c .before .ended .ensures) (not-true _ (c .if5 .taken))
 
 returns-6 : tie.Need-returns-6
 returns-6 c =
     let gates = c .before .before .before .before in
     let lamps = gates .before .before .before in
-    let latches = lamps .before .before .before in
+    let latches = lamps .before .before .before .before in
     let inputs = latches .before .before .before in
-    end-last _ _ _ (inputs .judge-lines .ensures) (latches .before .if1 .left) (latches .judge-lines2 .ensures) (lamps .before .if2 .left) (lamps .judge-lines3 .ensures) (gates .before .if3 .left) (gates .judge-lines4 .ensures) (c .before .before .if4 .left) (c .before .ended .ensures) (not-false _ (c .if5 .left))
+    end-last _ _ _ (inputs .judge-lines .ensures) (latches .before .if1 .left) (latches .judge-lines2 .ensures) (lamps .before .before .if2 .left) (rw (lamps .before .literals .ensures) at (lamps .judge-lines3 .ensures)) (gates .before .if3 .left) (gates .judge-lines4 .ensures) (c .before .before .if4 .left) (c .before .ended .ensures) (not-false _ (c .if5 .left))
 
 pub judge-body-spec : {M : Type 1} → statement M
 judge-body-spec =
@@ -103,6 +106,7 @@ judge-body-spec =
     returns
     judge-lines-requires-2
     returns-2
+    literals-requires
     judge-lines-requires-3
     returns-3
     judge-lines-requires-4
