@@ -8,7 +8,7 @@ use lib.Seq.{getD-take}
 use Rattle.three.proofs.Lists.{tabulate-ext}
 use Rattle.circuit.specs.declared.Counts.{Counts}
 use Rattle.circuit.specs.Circuit.{Circuit, Latch, Gate}
-use Rattle.circuit.specs.Table.{tableLength, gatesFrom, circuitOf}
+use Rattle.circuit.specs.Table.{tableLength, gatesFrom, circuitOf, literalsAt, gatesAt}
 
 abbrev latch : ℕ → ℕ → Latch
 latch a b = record { next = a; reset = b }
@@ -31,8 +31,8 @@ module _ (c : Counts) (words : List ℕ) where
   unfolding circuitOf gatesFrom
   circuit-front =
       let latches = tabulate-ext (c .latches) _ _ (λ i h. ap₂ latch (word (2 * i) (omega arith)) (word (2 * i + 1) (omega arith))) in
-      let lamps = tabulate-ext (c .lamps) _ _ (λ i h. word (2 * c .latches + i) (omega arith)) in
-      let at : ℕ = 2 * c .latches + c .lamps in
+      let lamps = tabulate-ext (c .lamps) _ _ (λ i h. word (literalsAt c + i) (omega arith)) in
+      let at : ℕ = gatesAt c in
       let gates = tabulate-ext (c .gates) _ _ (λ i h. ap₂ gate (word (at + 2 * i) (omega arith)) (word (at + 2 * i + 1) (omega arith))) in
       ap₂ (λ (ls : List Latch) (os : List ℕ). circuit (c .inputs) ls os (gatesFrom front at (c .gates))) latches lamps
       ∙ ap (λ (gs : List Gate). circuit (c .inputs) (circuitOf c words .latches) (circuitOf c words .lamps) gs) gates

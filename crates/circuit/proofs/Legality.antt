@@ -10,10 +10,10 @@ use lib.ListN.{length, getD}
 use Rattle.three.proofs.Lists.{and-parts, every-at}
 use Rattle.circuit.specs.declared.Counts.{Counts}
 use Rattle.circuit.specs.Refusal.{refusal, Passed, allHold}
-use Rattle.circuit.specs.Table.{top, tableLength, kinds, tableTests, ceilingTests, wordTests, circuitTests, boardTests}
-use Rattle.circuit.specs.RulesInCode.{latchKept, lampKept, gateKept, Bounded, Legal}
+use Rattle.circuit.specs.Table.{top, tableLength, kinds, tableTests, ceilingTests, wordTests, circuitTests, boardTests, gatesAt}
+use Rattle.circuit.specs.RulesInCode.{latchKept, literalKept, gateKept, Bounded, Legal}
 use Rattle.circuit.proofs.Refusals.{Numbered, Alike, stops, past, none, passes, fails, passed-refusal, none-append, append-past}
-use Rattle.circuit.proofs.Rules.{Latches, Lamps, Gates, table-rules}
+use Rattle.circuit.proofs.Rules.{Latches, Literals, Gates, table-rules}
 
 -- ---- 3: the ceilings
 
@@ -67,26 +67,26 @@ module _ (c : Counts) (table : List ℕ) where
   words-kept e = let p = passes (wordTests c table) words-numbered e in (leb-true (tableLength c) (length table) (p .0), p .1 .0)
 
   pub legal-words : Bounded c → 0 ≡ refusal (wordTests c table) → Legal c table
-  unfolding latchKept lampKept gateKept
+  unfolding latchKept literalKept gateKept
   legal-words b e =
       let kept = words-kept e in
-      let rules = and-parts (Latches c table) (Lamps c table && Gates c table) (sym (table-rules c table) ∙ kept .1) in
-      let others = and-parts (Lamps c table) (Gates c table) (rules .1) in
+      let rules = and-parts (Latches c table) (Literals c table && Gates c table) (sym (table-rules c table) ∙ kept .1) in
+      let others = and-parts (Literals c table) (Gates c table) (rules .1) in
       let latch = every-at _ _ (rules .0) in
-      let lamp = every-at _ _ (others .0) in
+      let literal = every-at _ _ (others .0) in
       let gate = every-at _ _ (others .1) in
       record {
         bounded = b;
         long = kept .0;
         next = λ k h. leb-true _ _ (and-parts (leb (getD table (2 * k) 0) (top c)) _ (latch k h) .0);
         reset = λ k h. leb-true _ _ (and-parts (leb (getD table (2 * k) 0) (top c)) _ (latch k h) .1);
-        lamp = λ k h. leb-true _ _ (lamp k h);
+        literal = λ k h. leb-true _ _ (literal k h);
         left = λ k h.
             let own : ℕ = 2 * (1 + c .inputs + c .latches) + 2 * k in
-            let below : getD table (2 * c .latches + c .lamps + 2 * k) 0 < own = ltb-true _ _ (and-parts (ltb (getD table (2 * c .latches + c .lamps + 2 * k) 0) own) _ (gate k h) .0) in omega arith;
+            let below : getD table (gatesAt c + 2 * k) 0 < own = ltb-true _ _ (and-parts (ltb (getD table (gatesAt c + 2 * k) 0) own) _ (gate k h) .0) in omega arith;
         right = λ k h.
             let own : ℕ = 2 * (1 + c .inputs + c .latches) + 2 * k in
-            let below : getD table (2 * c .latches + c .lamps + 2 * k + 1) 0 < own = ltb-true _ _ (and-parts (ltb (getD table (2 * c .latches + c .lamps + 2 * k) 0) own) _ (gate k h) .1) in omega arith;
+            let below : getD table (gatesAt c + 2 * k + 1) 0 < own = ltb-true _ _ (and-parts (ltb (getD table (gatesAt c + 2 * k) 0) own) _ (gate k h) .1) in omega arith;
       }
 
   -- ---- both, as a call is given a circuit

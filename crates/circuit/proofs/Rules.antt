@@ -12,8 +12,8 @@ use lib.Seq.{getD-drop, drop-drop}
 use Rattle.three.specs.Lists.{every}
 use Rattle.three.proofs.Lists.{iff, and-parts, every-all, every-ext}
 use Rattle.circuit.specs.Refusal.{Test, allHold}
-use Rattle.circuit.specs.Table.{Kind, input, latch, lamp, gate, several, kinds, width, rowTests, tableTests, top}
-use Rattle.circuit.specs.RulesInCode.{latchKept, lampKept, gateKept}
+use Rattle.circuit.specs.Table.{Kind, input, latch, literal, gate, several, kinds, width, rowTests, tableTests, top, literalsAt, gatesAt, literals}
+use Rattle.circuit.specs.RulesInCode.{latchKept, literalKept, gateKept}
 use Rattle.circuit.specs.declared.Counts.{Counts}
 
 pub and-fails : {a : Bool} (b : Bool) → a ≡ false → false ≡ (a && b)
@@ -63,9 +63,9 @@ latch-row : (most own : ℕ) (ws : List ℕ) (at : ℕ) → allHold (rowTests mo
 unfolding latchKept rowTests allHold
 latch-row most own ws at = rw (getD-drop at ws 0 0, getD-drop at ws 1 0, add-zero) (ap (λ t. leb (getD ws at 0) most && t) (and-true _))
 
-lamp-row : (most : ℕ) (ws : List ℕ) (at : ℕ) → allHold (rowTests most lamp (drop at ws)) ≡ lampKept most ws at
-unfolding lampKept rowTests allHold
-lamp-row most ws at = rw (getD-drop at ws 0 0, add-zero) (and-true _)
+literal-row : (most : ℕ) (ws : List ℕ) (at : ℕ) → allHold (rowTests most literal (drop at ws)) ≡ literalKept most ws at
+unfolding literalKept rowTests allHold
+literal-row most ws at = rw (getD-drop at ws 0 0, add-zero) (and-true _)
 
 -- an operand below an own literal is below the largest literal
 gate-row : (most own : ℕ) → own ≤ most → (ws : List ℕ) (at : ℕ) → allHold (rowTests most (gate own) (drop at ws)) ≡ gateKept own ws at
@@ -83,11 +83,11 @@ module _ (c : Counts) (ws : List ℕ) where
   abbrev pub Latches : Bool
   Latches = every (c .latches) (λ i. latchKept (top c) ws (2 * i))
 
-  abbrev pub Lamps : Bool
-  Lamps = every (c .lamps) (λ i. lampKept (top c) ws (2 * c .latches + i))
+  abbrev pub Literals : Bool
+  Literals = every (literals c) (λ i. literalKept (top c) ws (literalsAt c + i))
 
   abbrev pub Gates : Bool
-  Gates = every (c .gates) (λ i. gateKept (2 * (1 + c .inputs + c .latches) + 2 * i) ws (2 * c .latches + c .lamps + 2 * i))
+  Gates = every (c .gates) (λ i. gateKept (2 * (1 + c .inputs + c .latches) + 2 * i) ws (gatesAt c + 2 * i))
 
   -- an input has no word
   inputs-hold : every (c .inputs) (rowHolds (top c) input 0 2 ws) ≡ true
@@ -98,42 +98,42 @@ module _ (c : Counts) (ws : List ℕ) where
   unfolding rowHolds
   latches-hold = every-ext (c .latches) _ _ (λ i h. latch-row (top c) _ ws (2 * i))
 
-  lamps-hold : every (c .lamps) (rowHolds (top c) (λ own. lamp) 1 0 (drop (2 * c .latches) ws)) ≡ Lamps
+  literals-hold : every (literals c) (rowHolds (top c) (λ own. literal) 1 0 (drop (literalsAt c) ws)) ≡ Literals
   unfolding rowHolds
-  lamps-hold = every-ext (c .lamps) _ _ (λ i h. let p : 2 * c .latches + 1 * i ≡ 2 * c .latches + i = omega arith in rw (drop-drop, p) (lamp-row (top c) ws (2 * c .latches + i)))
+  literals-hold = every-ext (literals c) _ _ (λ i h. let p : literalsAt c + 1 * i ≡ literalsAt c + i = omega arith in rw (drop-drop, p) (literal-row (top c) ws (literalsAt c + i)))
 
-  gates-hold : every (c .gates) (rowHolds (top c) gate 2 (2 + 2 * c .inputs + 2 * c .latches) (drop (2 * c .latches + c .lamps) ws)) ≡ Gates
+  gates-hold : every (c .gates) (rowHolds (top c) gate 2 (2 + 2 * c .inputs + 2 * c .latches) (drop (gatesAt c) ws)) ≡ Gates
   unfolding rowHolds
   gates-hold = every-ext (c .gates) _ _
       (λ i h. let o : 2 + 2 * c .inputs + 2 * c .latches + 2 * i ≡ 2 * (1 + c .inputs + c .latches) + 2 * i = omega arith in
-      rw (drop-drop, o) (gate-row (top c) (2 * (1 + c .inputs + c .latches) + 2 * i) (omega arith) ws (2 * c .latches + c .lamps + 2 * i)))
+      rw (drop-drop, o) (gate-row (top c) (2 * (1 + c .inputs + c .latches) + 2 * i) (omega arith) ws (gatesAt c + 2 * i)))
 
   -- the lines of the gates, and those from the lamps and from the latches on
   abbrev gateLines : List Kind
   gateLines = several gate (2 + 2 * c .inputs + 2 * c .latches) (c .gates) []
 
-  abbrev lampLines : List Kind
-  lampLines = several (λ own. lamp) 0 (c .lamps) gateLines
+  abbrev literalLines : List Kind
+  literalLines = several (λ own. literal) 0 (literals c) gateLines
 
   abbrev latchLines : List Kind
-  latchLines = several latch (2 + 2 * c .inputs) (c .latches) lampLines
+  latchLines = several latch (2 + 2 * c .inputs) (c .latches) literalLines
 
-  from-gates : allHold (tableTests (top c) gateLines (drop (2 * c .latches + c .lamps) ws)) ≡ Gates
+  from-gates : allHold (tableTests (top c) gateLines (drop (gatesAt c) ws)) ≡ Gates
   unfolding width tableTests allHold
-  from-gates = rows (top c) gate 2 (λ own. refl) (c .gates) _ [] (drop (2 * c .latches + c .lamps) ws) ∙ and-true _ ∙ gates-hold
+  from-gates = rows (top c) gate 2 (λ own. refl) (c .gates) _ [] (drop (gatesAt c) ws) ∙ and-true _ ∙ gates-hold
 
-  from-lamps : allHold (tableTests (top c) lampLines (drop (2 * c .latches) ws)) ≡ (Lamps && Gates)
+  from-literals : allHold (tableTests (top c) literalLines (drop (literalsAt c) ws)) ≡ (Literals && Gates)
   unfolding width
-  from-lamps =
-      let p : 2 * c .latches + 1 * c .lamps ≡ 2 * c .latches + c .lamps = omega arith in
-      rows (top c) (λ own. lamp) 1 (λ own. refl) (c .lamps) 0 gateLines (drop (2 * c .latches) ws)
-      ∙ ap₂ (λ (x y : Bool). x && y) lamps-hold (rw (drop-drop, p) from-gates)
+  from-literals =
+      let p : literalsAt c + 1 * literals c ≡ gatesAt c = omega arith in
+      rows (top c) (λ own. literal) 1 (λ own. refl) (literals c) 0 gateLines (drop (literalsAt c) ws)
+      ∙ ap₂ (λ (x y : Bool). x && y) literals-hold (rw (drop-drop, p) from-gates)
 
-  from-latches : allHold (tableTests (top c) latchLines ws) ≡ (Latches && (Lamps && Gates))
+  from-latches : allHold (tableTests (top c) latchLines ws) ≡ (Latches && (Literals && Gates))
   unfolding width
-  from-latches = rows (top c) latch 2 (λ own. refl) (c .latches) _ lampLines ws ∙ ap₂ (λ (x y : Bool). x && y) latches-hold from-lamps
+  from-latches = rows (top c) latch 2 (λ own. refl) (c .latches) _ literalLines ws ∙ ap₂ (λ (x y : Bool). x && y) latches-hold from-literals
 
-  pub table-rules : allHold (tableTests (top c) (kinds c) ws) ≡ (Latches && (Lamps && Gates))
+  pub table-rules : allHold (tableTests (top c) (kinds c) ws) ≡ (Latches && (Literals && Gates))
   unfolding kinds width
   table-rules = rows (top c) input 0 (λ own. refl) (c .inputs) 2 latchLines ws ∙ rw (inputs-hold, zero-mul) from-latches
 
@@ -141,8 +141,8 @@ module _ (c : Counts) (ws : List ℕ) where
   pub latches-break : {l : Bool} → l ≡ Latches → l ≡ false → false ≡ allHold (tableTests (top c) (kinds c) ws)
   latches-break e f = and-fails _ (sym e ∙ f) ∙ sym table-rules
 
-  pub lamps-break : {l m : Bool} → l ≡ Latches → l ≡ true → m ≡ Lamps → m ≡ false → false ≡ allHold (tableTests (top c) (kinds c) ws)
-  lamps-break e f g h = and-fails _ (sym g ∙ h) ∙ and-holds _ (sym e ∙ f) ∙ sym table-rules
+  pub literals-break : {l m : Bool} → l ≡ Latches → l ≡ true → m ≡ Literals → m ≡ false → false ≡ allHold (tableTests (top c) (kinds c) ws)
+  literals-break e f g h = and-fails _ (sym g ∙ h) ∙ and-holds _ (sym e ∙ f) ∙ sym table-rules
 
-  pub gates-decide : {l m a : Bool} → l ≡ Latches → l ≡ true → m ≡ Lamps → m ≡ true → a ≡ Gates → a ≡ allHold (tableTests (top c) (kinds c) ws)
+  pub gates-decide : {l m a : Bool} → l ≡ Latches → l ≡ true → m ≡ Literals → m ≡ true → a ≡ Gates → a ≡ allHold (tableTests (top c) (kinds c) ws)
   gates-decide e f g h k = k ∙ and-holds _ (sym g ∙ h) ∙ and-holds _ (sym e ∙ f) ∙ sym table-rules

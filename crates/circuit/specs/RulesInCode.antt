@@ -5,14 +5,14 @@ use Prim.Native.Nat.{ℕ, _+_, _*_, _≤_, _<_}
 use lib.Dec.{leb, ltb}
 use lib.ListN.{length, getD}
 use Rattle.circuit.specs.declared.Counts.{Counts}
-use Rattle.circuit.specs.Table.{top, tableLength}
+use Rattle.circuit.specs.Table.{top, tableLength, literalsAt, gatesAt, literals}
 
 -- the same rules where a line's words stand at word `at`: 6 and 8 for a latch, 6 for a lamp, and for a gate 7, from which 6 follows
 unfoldable pub latchKept : ℕ → List ℕ → ℕ → Bool
 latchKept most words at = leb (getD words at 0) most && leb (getD words (at + 1) 0) 1
 
-unfoldable pub lampKept : ℕ → List ℕ → ℕ → Bool
-lampKept most words at = leb (getD words at 0) most
+unfoldable pub literalKept : ℕ → List ℕ → ℕ → Bool
+literalKept most words at = leb (getD words at 0) most
 
 unfoldable pub gateKept : ℕ → List ℕ → ℕ → Bool
 gateKept own words at = ltb (getD words at 0) own && ltb (getD words (at + 1) 0) own
@@ -30,6 +30,6 @@ pub record Legal (c : Counts) (words : List ℕ) : Type 0 where
   pub long : tableLength c ≤ length words
   pub next : (i : ℕ) → i < c .latches → getD words (2 * i) 0 ≤ top c
   pub reset : (i : ℕ) → i < c .latches → getD words (2 * i + 1) 0 ≤ 1
-  pub lamp : (i : ℕ) → i < c .lamps → getD words (2 * c .latches + i) 0 ≤ top c
-  pub left : (i : ℕ) → i < c .gates → getD words (2 * c .latches + c .lamps + 2 * i) 0 < 2 * (1 + c .inputs + c .latches + i)
-  pub right : (i : ℕ) → i < c .gates → getD words (2 * c .latches + c .lamps + 2 * i + 1) 0 < 2 * (1 + c .inputs + c .latches + i)
+  pub literal : (i : ℕ) → i < literals c → getD words (literalsAt c + i) 0 ≤ top c
+  pub left : (i : ℕ) → i < c .gates → getD words (gatesAt c + 2 * i) 0 < 2 * (1 + c .inputs + c .latches + i)
+  pub right : (i : ℕ) → i < c .gates → getD words (gatesAt c + 2 * i + 1) 0 < 2 * (1 + c .inputs + c .latches + i)

@@ -21,14 +21,25 @@ unfoldable pub ceilingTests : Counts → List Test
 ceilingTests c =
     leb (c .inputs) 256 or 3 ∷ leb (c .latches) 512 or 3 ∷ leb (c .lamps) 64 or 3 ∷ leb (c .gates) 3327 or 3 ∷ []
 
+-- how many lines have one literal
+abbrev pub literals : Counts → ℕ
+literals c = c .lamps
+
+-- the words of the latches come first; the first literal of those lines, and the first gate, stand at these words
+abbrev pub literalsAt : Counts → ℕ
+literalsAt c = 2 * c .latches
+
+abbrev pub gatesAt : Counts → ℕ
+gatesAt c = literalsAt c + literals c
+
 -- the table takes so many words
 abbrev pub tableLength : Counts → ℕ
-tableLength c = 2 * c .latches + c .lamps + 2 * c .gates
+tableLength c = gatesAt c + 2 * c .gates
 
 -- The kinds of line that a circuit's text has; an input, a latch and a gate with the own literal due there
 pub data Kind : Type 0 where
   input latch gate : ℕ → Kind
-  lamp : Kind
+  literal : Kind
 
 -- n lines of a kind, the first with the literal own, and then the lines ks
 unfoldable pub several : (ℕ → Kind) → ℕ → ℕ → List Kind → List Kind
@@ -40,20 +51,20 @@ unfoldable pub kinds : Counts → List Kind
 kinds c =
     several input 2 (c .inputs)
     (several latch (2 + 2 * c .inputs) (c .latches)
-    (several (λ own. lamp) 0 (c .lamps) (several gate (2 + 2 * c .inputs + 2 * c .latches) (c .gates) [])))
+    (several (λ own. literal) 0 (literals c) (several gate (2 + 2 * c .inputs + 2 * c .latches) (c .gates) [])))
 
 -- how many words of the table belong to a line
 unfoldable pub width : Kind → ℕ
 width (input own) = 0
 width (latch own) = 2
-width lamp = 1
+width literal = 1
 width (gate own) = 2
 
 -- rules 6, 7 and 8 for a line's words, the first of ws; `most` is the largest literal
 unfoldable pub rowTests : ℕ → Kind → List ℕ → List Test
 rowTests most (input own) ws = []
 rowTests most (latch own) ws = leb (getD ws 0 0) most or 6 ∷ leb (getD ws 1 0) 1 or 8 ∷ []
-rowTests most lamp ws = leb (getD ws 0 0) most or 6 ∷ []
+rowTests most literal ws = leb (getD ws 0 0) most or 6 ∷ []
 rowTests most (gate own) ws =
     leb (getD ws 0 0) most or 6 ∷ leb (getD ws 1 0) most or 6 ∷ ltb (getD ws 0 0) own or 7 ∷ ltb (getD ws 1 0) own or 7 ∷ []
 
@@ -71,8 +82,8 @@ unfoldable pub circuitOf : Counts → List ℕ → Circuit
 circuitOf c words = record {
   inputs = c .inputs;
   latches = tabulate (c .latches) (λ i. record { next = getD words (2 * i) 0; reset = getD words (2 * i + 1) 0 });
-  lamps = tabulate (c .lamps) (λ i. getD words (2 * c .latches + i) 0);
-  gates = gatesFrom words (2 * c .latches + c .lamps) (c .gates);
+  lamps = tabulate (c .lamps) (λ i. getD words (literalsAt c + i) 0);
+  gates = gatesFrom words (gatesAt c) (c .gates);
 }
 
 -- 10 for the table, 11

@@ -1,4 +1,7 @@
 // The counts of a circuit and their ceilings; specs and proofs: the circuit, its table of words, and their laws (document 01, Circuit).
+ghost use mathlib.Core.Path.{_≡_};
+ghost use Rattle.circuit.specs.Table.{literals as literalLines, literalsAt, gatesAt};
+ghost use Rattle.circuit.specs.RulesInCode.{Bounded};
 
 // I, L, O and A.
 #[repr(C)]
@@ -17,3 +20,26 @@ pub const MOST_LATCHES: usize = 512;
 pub const MOST_LAMPS: usize = 64;
 
 pub const MOST_GATES: usize = 3327;
+
+// The lines of one literal: how many, and the word of the first.
+pub fn literals(counts: Counts) -> usize
+    requires { ⌜ Bounded counts ⌝ }
+    ensures { λ r. ⌜ r ≡ literalLines counts ⌝ }
+{
+    counts.lamps
+}
+
+pub fn literals_at(counts: Counts) -> usize
+    requires { ⌜ Bounded counts ⌝ }
+    ensures { λ r. ⌜ r ≡ literalsAt counts ⌝ }
+{
+    2 * counts.latches
+}
+
+// The word of the first gate.
+pub fn gates_at(counts: Counts) -> usize
+    requires { ⌜ Bounded counts ⌝ }
+    ensures { λ r. ⌜ r ≡ gatesAt counts ⌝ }
+{
+    literals_at(counts) + literals(counts)
+}

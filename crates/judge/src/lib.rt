@@ -27,7 +27,8 @@ fn lamps_at(
     ensures { λ _. ⌜ SwitchesX counts (now (values .exit)) × (now (out .exit) ≡ over (pack (lampsIn (circuitOf counts (now (table .entry))) (cubeOf (counts .latches) (drop at (now (cubes .entry)))))) (now (out .entry))) ⌝ }
 {
     stored::settle_cube(counts, table, cubes, at, values);
-    pass::store(values, table, 2 * counts.latches, 1, counts.lamps, out);
+    let first = circuit::literals_at(counts);
+    pass::store(values, table, first, 1, counts.lamps, out);
 }
 
 // "per lamp 01 (never) if 0 in all n cubes, 10 (always) if 1 in all, else 00 (open)"

@@ -11,7 +11,7 @@ use Rattle.three.specs.Cube.{Cube}
 use Rattle.three.proofs.Lists.{length-tabulate, map-tabulate, tabulate-ext}
 use Rattle.circuit.specs.declared.Counts.{Counts}
 use Rattle.circuit.specs.Circuit.{value, pass, settle, next, lamps, readings}
-use Rattle.circuit.specs.Table.{top, gatesFrom, circuitOf}
+use Rattle.circuit.specs.Table.{top, gatesFrom, circuitOf, literalsAt, gatesAt}
 use Rattle.circuit.specs.RulesInCode.{Legal}
 use Rattle.pass.specs.ValuesInCode.{valuesOf, Working, Holding, Begins, Gateable, Readable, literalValues, passed}
 use Rattle.circuit.proofs.Pass.{value-take, length-pass}
@@ -19,7 +19,7 @@ use Rattle.pass.proofs.Values.{length-values}
 use Rattle.three.specs.Lists.{tabulate}
 
 module _ (c : Counts) (words : List ℕ) (legal : Legal c words) where
-  pub legal-gates : Gateable words (2 * c .latches + c .lamps) (1 + c .inputs + c .latches) (c .gates)
+  pub legal-gates : Gateable words (gatesAt c) (1 + c .inputs + c .latches) (c .gates)
   legal-gates = record { long = legal .long; room = omega (arith, legal .bounded); left = legal .left; right = legal .right }
 
   -- a state behind what stands in the table
@@ -32,7 +32,7 @@ module _ (c : Counts) (words : List ℕ) (legal : Legal c words) where
 
     pub state-begins : (t₀ t₁ t₂ : List ℕ) → Working t₀
         → Holding t₁ (paste (valuesOf t₀) (1 + c .inputs) state (c .latches))
-        → Holding t₂ (passed words (2 * c .latches + c .lamps) (1 + c .inputs + c .latches) (c .gates) (valuesOf t₁))
+        → Holding t₂ (passed words (gatesAt c) (1 + c .inputs + c .latches) (c .gates) (valuesOf t₁))
         → Begins t₂ (pass ternary (take (1 + c .inputs) (valuesOf t₀) ++ state) (circuitOf c words .gates))
     unfolding circuitOf passed
     state-begins t₀ t₁ t₂ w h₁ h₂ = record {
@@ -64,8 +64,8 @@ module _ (c : Counts) (words : List ℕ) (legal : Legal c words) where
   pub next-readable : Readable words 0 2 (c .latches)
   next-readable = record { long = λ i h. omega (arith, legal .long); small = λ i h. rw zero-add (omega (arith, legal .next i h, legal .bounded)) }
 
-  pub lamps-readable : Readable words (2 * c .latches) 1 (c .lamps)
-  lamps-readable = record { long = λ i h. omega (arith, legal .long); small = λ i h. rw one-mul (omega (arith, legal .lamp i h, legal .bounded)) }
+  pub lamps-readable : Readable words (literalsAt c) 1 (c .lamps)
+  lamps-readable = record { long = λ i h. omega (arith, legal .long); small = λ i h. rw one-mul (omega (arith, legal .literal i h, legal .bounded)) }
 
   module _ (switches state : Cube) (sized : length switches ≡ c .inputs) (sized′ : length state ≡ c .latches) (table : List ℕ)
       (begins : Begins table (settle ternary (circuitOf c words) switches state)) where
@@ -93,6 +93,6 @@ module _ (c : Counts) (words : List ℕ) (legal : Legal c words) where
     unfolding circuitOf
     next-stored = readings-stored 0 2 (c .latches) (tabulate-ext (c .latches) _ _ (λ i h. rw zero-add) ∙ sym (map-tabulate _ (c .latches) _)) (λ i h. rw zero-add (legal .next i h))
 
-    pub lamps-stored : literalValues (valuesOf table) words (2 * c .latches) 1 (c .lamps) ≡ lamps ternary (circuitOf c words) switches state
+    pub lamps-stored : literalValues (valuesOf table) words (literalsAt c) 1 (c .lamps) ≡ lamps ternary (circuitOf c words) switches state
     unfolding circuitOf
-    lamps-stored = readings-stored (2 * c .latches) 1 (c .lamps) (tabulate-ext (c .lamps) _ _ (λ i h. rw one-mul)) (λ i h. rw one-mul (legal .lamp i h))
+    lamps-stored = readings-stored (literalsAt c) 1 (c .lamps) (tabulate-ext (c .lamps) _ _ (λ i h. rw one-mul)) (λ i h. rw one-mul (legal .literal i h))

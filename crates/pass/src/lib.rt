@@ -101,10 +101,9 @@ pub fn settle_state(counts: Counts, table: &[u16], state: &[u8], values: &mut Va
 {
     let first = 1 + counts.inputs;
     load(state, first, counts.latches, values);
-    let lamps = 2 * counts.latches;
     gates(
         table,
-        lamps + counts.lamps,
+        circuit::gates_at(counts),
         first + counts.latches,
         counts.gates,
         values,

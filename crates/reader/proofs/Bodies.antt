@@ -9,7 +9,7 @@ use borrow.Author.Tests.{ltb-true, ltb-false, eqb-true, eqb-false, ne-eqb}
 use lib.Dec.{ltb, eqb}
 use lib.ListN.{length, getD, take}
 use Rattle.three.proofs.Lists.{by-test}
-use Rattle.circuit.specs.Table.{Kind, input, latch, lamp, gate, several}
+use Rattle.circuit.specs.Table.{Kind, input, latch, gate, several, literal}
 use Rattle.circuit.specs.Refusal.{Test, refusal}
 use Rattle.text.specs.Part.{Part, got, ill}
 use Rattle.text.specs.Line.{strip, readLine}
@@ -83,7 +83,7 @@ no-numbers : (k : Kind) → fits k 0 ≡ false
 unfolding fits
 no-numbers (input own) = refl
 no-numbers (latch own) = refl
-no-numbers lamp = refl
+no-numbers literal = refl
 no-numbers (gate own) = refl
 
 pub line-judged : (ending text : List ℕ) (at most : ℕ) (k : Kind) (l : ReadLine) (n : ℕ) → LineFound text (readLine ending (from text at)) l → n ≡ refusal (lineTests most k (numbersOf l))

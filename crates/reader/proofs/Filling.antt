@@ -9,7 +9,7 @@ use lib.Seq.{sets, length-sets}
 use Rattle.three.specs.Lists.{over}
 use Rattle.circuit.specs.declared.Counts.{Counts}
 use Rattle.circuit.specs.Refusal.{Passed}
-use Rattle.circuit.specs.Table.{top, Kind, input, latch, lamp, gate, several, rowTests}
+use Rattle.circuit.specs.Table.{top, Kind, input, latch, gate, several, rowTests, literal}
 use Rattle.text.specs.Line.{readLine}
 use Rattle.text.specs.Outcome.{accepted, leaves}
 use Rattle.text.specs.Text.{words, lineTests, Lines, inFront, readLines}
@@ -37,7 +37,7 @@ module _ (own : ℕ) (ns : List ℕ) where
   unfolding words
   gate-words = refl
 
-pub lamp-words : (ns : List ℕ) → getD ns 0 0 ∷ [] ≡ words lamp ns
+pub lamp-words : (ns : List ℕ) → getD ns 0 0 ∷ [] ≡ words literal ns
 unfolding words
 lamp-words ns = refl
 
@@ -48,8 +48,8 @@ words-small most (input own) ns h p i = omega arith
 words-small most (latch own) ns h p zero = omega (arith, leb-true)
 words-small most (latch own) ns h p (suc zero) = omega (arith, leb-true)
 words-small most (latch own) ns h p (suc (suc i)) = omega arith
-words-small most lamp ns h p zero = omega (arith, leb-true)
-words-small most lamp ns h p (suc i) = omega arith
+words-small most literal ns h p zero = omega (arith, leb-true)
+words-small most literal ns h p (suc i) = omega arith
 words-small most (gate own) ns h p zero = omega (arith, leb-true)
 words-small most (gate own) ns h p (suc zero) = omega (arith, leb-true)
 words-small most (gate own) ns h p (suc (suc i)) = omega arith

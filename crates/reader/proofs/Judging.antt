@@ -10,7 +10,7 @@ use lib.ListN.{getD}
 use Rattle.three.proofs.Lists.{by-test}
 use Rattle.circuit.specs.declared.Counts.{Counts}
 use Rattle.circuit.specs.Refusal.{Test, _or_, refusal}
-use Rattle.circuit.specs.Table.{variables, ceilingTests, Kind, input, latch, lamp, gate, rowTests}
+use Rattle.circuit.specs.Table.{variables, ceilingTests, Kind, input, latch, literal, gate, rowTests}
 use Rattle.circuit.proofs.Refusals.{stops, past, none, passed-refusal, fails}
 use Rattle.lines.specs.declared.ReadLine.{ReadLine}
 use Rattle.text.specs.Text.{fits, owns, words, lineTests, countsOf, headerTests}
@@ -78,17 +78,17 @@ module _ (most own : ℕ) (l : ReadLine) (s : Shape l) where
   input-passes h p = line-words most (input own) l s (eq-eqb _ _ h) (eq-eqb _ _ p) none
 
 module _ (most : ℕ) (l : ReadLine) (s : Shape l) where
-  pub lamp-count : (l .count ≡ 1 → ⊥) → 4 ≡ refusal (lineTests most lamp (numbersOf l))
+  pub lamp-count : (l .count ≡ 1 → ⊥) → 4 ≡ refusal (lineTests most literal (numbersOf l))
   unfolding fits
-  lamp-count h = line-count most lamp l s (ne-eqb _ _ h)
+  lamp-count h = line-count most literal l s (ne-eqb _ _ h)
 
-  pub lamp-over : l .count ≡ 1 → most < nth l 0 → 6 ≡ refusal (lineTests most lamp (numbersOf l))
+  pub lamp-over : l .count ≡ 1 → most < nth l 0 → 6 ≡ refusal (lineTests most literal (numbersOf l))
   unfolding fits owns words rowTests
-  lamp-over h p = line-words most lamp l s (eq-eqb _ _ h) refl (stops _ _ (lt-leb _ _ p))
+  lamp-over h p = line-words most literal l s (eq-eqb _ _ h) refl (stops _ _ (lt-leb _ _ p))
 
-  pub lamp-passes : l .count ≡ 1 → nth l 0 ≤ most → 0 ≡ refusal (lineTests most lamp (numbersOf l))
+  pub lamp-passes : l .count ≡ 1 → nth l 0 ≤ most → 0 ≡ refusal (lineTests most literal (numbersOf l))
   unfolding fits owns words rowTests
-  lamp-passes h p = line-words most lamp l s (eq-eqb _ _ h) refl (past _ _ (le-leb _ _ p) none)
+  lamp-passes h p = line-words most literal l s (eq-eqb _ _ h) refl (past _ _ (le-leb _ _ p) none)
 
 module _ (most own : ℕ) (l : ReadLine) (s : Shape l) where
   pub latch-few : l .count < 2 → 4 ≡ refusal (lineTests most (latch own) (numbersOf l))

@@ -7,7 +7,7 @@ use lib.ListN.{length, getD}
 use lib.Seq.{sets}
 use Rattle.circuit.specs.declared.Counts.{Counts}
 use Rattle.circuit.specs.Refusal.{Test}
-use Rattle.circuit.specs.Table.{top, Kind, input, latch, lamp, gate, several, kinds}
+use Rattle.circuit.specs.Table.{top, Kind, input, latch, gate, several, kinds, literal, literals}
 use Rattle.circuit.specs.RulesInCode.{Bounded}
 use Rattle.reader.specs.declared.Judged.{Judged}
 use Rattle.reader.specs.declared.Judgement.{Judgement}
@@ -38,7 +38,7 @@ abbrev pub kindsThen : Counts → List Kind → List Kind
 kindsThen c ks =
     several input 2 (c .inputs)
     (several latch (2 + 2 * c .inputs) (c .latches)
-    (several (λ own. lamp) 0 (c .lamps) (several gate (2 + 2 * c .inputs + 2 * c .latches) (c .gates) ks)))
+    (several (λ own. literal) 0 (literals c) (several gate (2 + 2 * c .inputs + 2 * c .latches) (c .gates) ks)))
 
 -- what lines of a text are read as, and their words
 unfoldable pub linesOf : List ℕ → Counts → List Kind → List ℕ → Lines
@@ -75,7 +75,7 @@ abbrev pub gatesOn : Counts → List Kind
 gatesOn c = several gate (2 + 2 * c .inputs + 2 * c .latches) (c .gates) []
 
 abbrev pub lampsOn : Counts → List Kind
-lampsOn c = several (λ own. lamp) 0 (c .lamps) (gatesOn c)
+lampsOn c = several (λ own. literal) 0 (literals c) (gatesOn c)
 
 abbrev pub latchesOn : Counts → List Kind
 latchesOn c = several latch (2 + 2 * c .inputs) (c .latches) (lampsOn c)

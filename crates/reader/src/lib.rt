@@ -14,7 +14,7 @@ ghost use mathlib.Core.List.{List, [], _∷_};
 ghost use lib.Seq.{sets};
 ghost use Rattle.three.specs.Lists.{over};
 ghost use Rattle.circuit.specs.Refusal.{refusal};
-ghost use Rattle.circuit.specs.Table.{top, input, latch, lamp, gate, several, kinds};
+ghost use Rattle.circuit.specs.Table.{top, input, latch, literal, gate, several, kinds, literalsAt, gatesAt};
 ghost use Rattle.circuit.specs.RulesInCode.{Bounded};
 ghost use Rattle.text.specs.Text.{lineTests, ends, header as firstLine, countsOf, headerTests};
 ghost use Rattle.text.specs.Calls.{zeros, Reading};
@@ -115,7 +115,7 @@ fn latch_refusal(own: usize, most: usize, found: ReadLine) -> u32
 
 fn lamp_refusal(most: usize, found: ReadLine) -> u32
     requires { ⌜ Shape found ⌝ }
-    ensures { λ r. ⌜ r ≡ refusal (lineTests most lamp (numbersOf found)) ⌝ }
+    ensures { λ r. ⌜ r ≡ refusal (lineTests most literal (numbersOf found)) ⌝ }
 {
     if found.count != 1 {
         return 4;
@@ -253,7 +253,15 @@ fn judge_body(text: &[u8], at: usize, ending: Ending, counts: Counts) -> Judged
     if latches.number != 0 {
         return latches;
     }
-    let lamps = judge_lines(text, latches.next, ending, LAMP_LINE, 0, counts.lamps, most);
+    let lamps = judge_lines(
+        text,
+        latches.next,
+        ending,
+        LAMP_LINE,
+        0,
+        circuit::literals(counts),
+        most,
+    );
     if lamps.number != 0 {
         return lamps;
     }
@@ -322,7 +330,7 @@ fn skip_inputs(text: &[u8], at: usize, ending: Ending, counts: Counts) -> usize
 // "for each latch its next literal and its reset"; the position behind the lines.
 fn fill_latches(text: &[u8], at: usize, ending: Ending, counts: Counts, table: &mut [u16]) -> usize
     requires { ⌜ Fillable (endingBytes ending) (now text) counts (stand (latchesOn counts) at 0 (now table)) ⌝ }
-    ensures { λ r. ⌜ Filled (endingBytes ending) (now (text .entry)) counts (stand (latchesOn counts) at 0 (now (table .entry))) (stand (lampsOn counts) r (2 * counts .latches) (now (table .exit))) ⌝ }
+    ensures { λ r. ⌜ Filled (endingBytes ending) (now (text .entry)) counts (stand (latchesOn counts) at 0 (now (table .entry))) (stand (lampsOn counts) r (literalsAt counts) (now (table .exit))) ⌝ }
 {
     let mut next = at;
     for i in 0..counts.latches {
@@ -335,12 +343,12 @@ fn fill_latches(text: &[u8], at: usize, ending: Ending, counts: Counts, table: &
 
 // "then the lamp literals"; the position behind the lines.
 fn fill_lamps(text: &[u8], at: usize, ending: Ending, counts: Counts, table: &mut [u16]) -> usize
-    requires { ⌜ Fillable (endingBytes ending) (now text) counts (stand (lampsOn counts) at (2 * counts .latches) (now table)) ⌝ }
-    ensures { λ r. ⌜ Filled (endingBytes ending) (now (text .entry)) counts (stand (lampsOn counts) at (2 * counts .latches) (now (table .entry))) (stand (gatesOn counts) r (2 * counts .latches + counts .lamps) (now (table .exit))) ⌝ }
+    requires { ⌜ Fillable (endingBytes ending) (now text) counts (stand (lampsOn counts) at (literalsAt counts) (now table)) ⌝ }
+    ensures { λ r. ⌜ Filled (endingBytes ending) (now (text .entry)) counts (stand (lampsOn counts) at (literalsAt counts) (now (table .entry))) (stand (gatesOn counts) r (gatesAt counts) (now (table .exit))) ⌝ }
 {
-    let first = 2 * counts.latches;
+    let first = circuit::literals_at(counts);
     let mut next = at;
-    for i in 0..counts.lamps {
+    for i in 0..circuit::literals(counts) {
         let found = lines::line(text, next, ending);
         table[first + i] = lines::entry(found, 0) as u16;
         next = found.next;
@@ -350,10 +358,10 @@ fn fill_lamps(text: &[u8], at: usize, ending: Ending, counts: Counts, table: &mu
 
 // "then two operands a gate"; the position behind the lines.
 fn fill_gates(text: &[u8], at: usize, ending: Ending, counts: Counts, table: &mut [u16]) -> usize
-    requires { ⌜ Fillable (endingBytes ending) (now text) counts (stand (gatesOn counts) at (2 * counts .latches + counts .lamps) (now table)) ⌝ }
-    ensures { λ r. ⌜ Filled (endingBytes ending) (now (text .entry)) counts (stand (gatesOn counts) at (2 * counts .latches + counts .lamps) (now (table .entry))) (stand [] r (2 * counts .latches + counts .lamps + 2 * counts .gates) (now (table .exit))) ⌝ }
+    requires { ⌜ Fillable (endingBytes ending) (now text) counts (stand (gatesOn counts) at (gatesAt counts) (now table)) ⌝ }
+    ensures { λ r. ⌜ Filled (endingBytes ending) (now (text .entry)) counts (stand (gatesOn counts) at (gatesAt counts) (now (table .entry))) (stand [] r (gatesAt counts + 2 * counts .gates) (now (table .exit))) ⌝ }
 {
-    let first = 2 * counts.latches + counts.lamps;
+    let first = circuit::gates_at(counts);
     let mut next = at;
     for i in 0..counts.gates {
         let found = lines::line(text, next, ending);

@@ -1,7 +1,7 @@
 -- A working table with all switches X serves pass after pass: each gives the circuit's values for the state that was loaded. Assumes nothing.
 use mathlib.Core.Path.{_≡_, sym, ap, _∙_}
 use mathlib.Core.List.{List, _∷_, _++_}
-use Prim.Native.Nat.{ℕ, suc, _+_, _*_, _-_, _≤_}
+use Prim.Native.Nat.{ℕ, suc, _+_, _-_, _≤_}
 use native.Mathlib.Numerals.{one-add}
 use native.Mathlib.Omega.{arith}
 use lib.ListN.{length, getD, take, drop, replicate, length-drop, length-replicate, length-append, List·getD-append}
@@ -13,7 +13,7 @@ use Rattle.three.specs.Record.{pack, unpack}
 use Rattle.three.proofs.Lists.{tabulate-ext}
 use Rattle.circuit.specs.declared.Counts.{Counts}
 use Rattle.circuit.specs.Circuit.{Circuit, pass, settle}
-use Rattle.circuit.specs.Table.{circuitOf}
+use Rattle.circuit.specs.Table.{circuitOf, literalsAt}
 use Rattle.circuit.specs.RulesInCode.{Legal}
 use Rattle.circuit.proofs.Pass.{length-pass, pass-front}
 use Rattle.pass.specs.ValuesInCode.{valuesOf, Begins, literalValues}
@@ -80,6 +80,6 @@ module _ (c : Counts) (words : List ℕ) (legal : Legal c words) (state : Cube) 
 
   -- ---- the lamps that are stored from a pass
 
-  pub lamps-reached : Settled c words state t → literalValues (valuesOf t) words (2 * c .latches) 1 (c .lamps) ≡ lampsIn circuit state
+  pub lamps-reached : Settled c words state t → literalValues (valuesOf t) words (literalsAt c) 1 (c .lamps) ≡ lampsIn circuit state
   unfolding lampsIn
   lamps-reached settled = lamps-stored c words legal (switchesUnknown circuit) state unknown-sized sized t settled

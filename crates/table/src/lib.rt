@@ -10,7 +10,7 @@ ghost use lib.ListN.{length};
 ghost use Rattle.three.specs.Lists.{every};
 ghost use Rattle.circuit.specs.Refusal.{allHold, refusal};
 ghost use Rattle.circuit.specs.Table.{top, tableLength, kinds, tableTests, ceilingTests, wordTests, circuitTests, boardTests};
-ghost use Rattle.circuit.specs.RulesInCode.{latchKept, lampKept, gateKept, Bounded};
+ghost use Rattle.circuit.specs.RulesInCode.{latchKept, literalKept, gateKept, Bounded};
 
 fn latch_kept(table: &[u16], at: usize, most: u16) -> bool
     requires { ⌜ at + 1 < length (now table) ⌝ }
@@ -34,9 +34,9 @@ fn latches_kept(table: &[u16], count: usize, most: u16) -> bool
     true
 }
 
-fn lamps_kept(table: &[u16], at: usize, count: usize, most: u16) -> bool
+fn literals_kept(table: &[u16], at: usize, count: usize, most: u16) -> bool
     requires { ⌜ at + count ≤ length (now table) ⌝ }
-    ensures { λ r. ⌜ r ≡ every count (λ i. lampKept most (now (table .entry)) (at + i)) ⌝ }
+    ensures { λ r. ⌜ r ≡ every count (λ i. literalKept most (now (table .entry)) (at + i)) ⌝ }
 {
     for i in 0..count {
         if table[at + i] > most {
@@ -76,7 +76,7 @@ pub fn table_length(counts: Counts) -> usize
     requires { ⌜ Bounded counts ⌝ }
     ensures { λ r. ⌜ r ≡ tableLength counts ⌝ }
 {
-    2 * counts.latches + counts.lamps + 2 * counts.gates
+    circuit::gates_at(counts) + 2 * counts.gates
 }
 
 // The table keeps rules 6, 7 and 8.
@@ -86,14 +86,18 @@ fn rules_kept(counts: Counts, table: &[u16]) -> bool
 {
     let most = (2 * (counts.inputs + counts.latches + counts.gates) + 1) as u16;
     let own = 2 * (1 + counts.inputs + counts.latches);
-    let lamps = 2 * counts.latches;
     if !latches_kept(table, counts.latches, most) {
         return false;
     }
-    if !lamps_kept(table, lamps, counts.lamps, most) {
+    if !literals_kept(
+        table,
+        circuit::literals_at(counts),
+        circuit::literals(counts),
+        most,
+    ) {
         return false;
     }
-    gates_kept(table, lamps + counts.lamps, counts.gates, own)
+    gates_kept(table, circuit::gates_at(counts), counts.gates, own)
 }
 
 // 3 for counts over a ceiling; 0 for none.

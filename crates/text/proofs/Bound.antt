@@ -8,7 +8,7 @@ use borrow.Author.Tests.{leb-true, ltb-true}
 use lib.ListN.{length, length-append, drop, getD}
 use Rattle.circuit.specs.declared.Counts.{Counts}
 use Rattle.circuit.specs.Refusal.{refusal, allHold, Passed}
-use Rattle.circuit.specs.Table.{variables, top, ceilingTests, Kind, input, latch, lamp, gate, several, kinds, width, rowTests, tableTests, wordTests, circuitTests}
+use Rattle.circuit.specs.Table.{variables, top, ceilingTests, Kind, input, latch, literal, gate, several, kinds, width, rowTests, tableTests, wordTests, circuitTests, literals}
 use Rattle.circuit.specs.RulesInCode.{Bounded}
 use Rattle.text.specs.Decimal.{digits, decimal}
 use Rattle.text.specs.Line.{lineText, endedLine}
@@ -21,7 +21,7 @@ use Rattle.text.proofs.Tables.{Taken, taken}
 room : Kind → ℕ
 room (input own) = length (decimal own) + 1
 room (latch own) = length (decimal own) + 8
-room lamp = 5
+room literal = 5
 room (gate own) = 3 * length (decimal own) + 3
 
 -- the same for several lines
@@ -40,7 +40,7 @@ line-room : (most : ℕ) (k : Kind) (ws : List ℕ) → most ≤ 8191 → Passed
 unfolding endedLine numbers room rowTests
 line-room most (input own) ws m p = simp length-append (omega arith)
 line-room most (latch own) ws m p = latch-room own (getD ws 0 0) (getD ws 1 0) (omega (arith, leb-true)) (omega (arith, leb-true))
-line-room most lamp ws m p = simp length-append (omega (arith, length-below 3 (getD ws 0 0) (omega (arith, leb-true))))
+line-room most literal ws m p = simp length-append (omega (arith, length-below 3 (getD ws 0 0) (omega (arith, leb-true))))
 line-room most (gate own) ws m p =
     simp length-append (omega (arith, length-monotone (getD ws 0 0) own (omega (arith, ltb-true)), length-monotone (getD ws 1 0) own (omega (arith, ltb-true))))
 
@@ -74,7 +74,7 @@ unfolding kinds room ceiling
 rooms-kinds c b =
     rooms-several input (λ x y h. omega (arith, length-monotone x y h)) _ _ (c .inputs) 256 _ _ (omega arith) (b .inputs)
     (rooms-several latch (λ x y h. omega (arith, length-monotone x y h)) _ _ (c .latches) 512 _ _ (omega arith) (b .latches)
-    (rooms-several (λ own. lamp) (λ x y h. omega arith) _ _ (c .lamps) 64 _ _ (omega arith) (b .lamps)
+    (rooms-several (λ own. literal) (λ x y h. omega arith) _ _ (literals c) 64 _ _ (omega arith) (b .lamps)
     (rooms-several gate (λ x y h. omega (arith, length-monotone x y h)) _ _ (c .gates) 3327 _ _ (omega arith) (b .gates) (omega arith))))
 
 pub text-bound : (c : Counts) (table : List ℕ) → 0 ≡ refusal (circuitTests c table) → length (writeText c table) ≤ 57122
@@ -100,7 +100,7 @@ text-bound c table e =
 longest : Kind → List ℕ
 longest (input own) = []
 longest (latch own) = 8191 ∷ 1 ∷ []
-longest lamp = 8191 ∷ []
+longest literal = 8191 ∷ []
 longest (gate own) = (own - 1) ∷ (own - 1) ∷ []
 
 longestWords : List Kind → List ℕ

@@ -2,7 +2,7 @@
 use mathlib.Core.Path.{_≡_, refl}
 use Prim.Native.Nat.{ℕ, zero, suc, _≤_}
 use native.Mathlib.Omega.{arith}
-use Rattle.circuit.specs.Table.{input, latch, lamp, gate, width}
+use Rattle.circuit.specs.Table.{input, latch, literal, gate, width}
 use Rattle.text.specs.KindsInCode.{coded}
 
 pub width-some : (k own : ℕ) → (k ≡ 0 → ⊥) → 1 ≤ width (coded k own)
@@ -35,7 +35,7 @@ pub coded-latch : {k : ℕ} (own : ℕ) → k ≡ 1 → coded k own ≡ latch ow
 unfolding coded
 coded-latch own e = rw e
 
-pub coded-lamp : {k : ℕ} (own : ℕ) → k ≡ 2 → coded k own ≡ lamp
+pub coded-lamp : {k : ℕ} (own : ℕ) → k ≡ 2 → coded k own ≡ literal
 unfolding coded
 coded-lamp own e = rw e
 

@@ -14,7 +14,7 @@ use Rattle.three.specs.Lists.{tabulate}
 use Rattle.three.proofs.Lists.{and-parts, by-test, tabulate-getD}
 use Rattle.circuit.specs.declared.Counts.{Counts}
 use Rattle.circuit.specs.Refusal.{refusal, Passed}
-use Rattle.circuit.specs.Table.{variables, top, tableLength, Kind, input, latch, lamp, gate, kinds, width, rowTests, tableTests, circuitTests}
+use Rattle.circuit.specs.Table.{variables, top, tableLength, Kind, input, latch, literal, gate, kinds, width, rowTests, tableTests, circuitTests}
 use Rattle.circuit.specs.RulesInCode.{Bounded}
 use Rattle.text.specs.Part.{got, ill}
 use Rattle.text.specs.Line.{newline, endedLine, strip, mostNumbers}
@@ -33,7 +33,7 @@ pub data Spelled (ws : List ℕ) : Kind → List ℕ → List ℕ → Type 0 whe
   inputLine : {own : ℕ} → Spelled ws (input own) ws (own ∷ [])
   latchLine : {own next reset : ℕ} → Spelled ws (latch own) (next ∷ reset ∷ ws) (own ∷ next ∷ reset ∷ [])
   latchPlain : {own next : ℕ} → Spelled ws (latch own) (next ∷ 0 ∷ ws) (own ∷ next ∷ [])
-  lampLine : {literal : ℕ} → Spelled ws lamp (literal ∷ ws) (literal ∷ [])
+  lampLine : {l : ℕ} → Spelled ws literal (l ∷ ws) (l ∷ [])
   gateLine : {own left right : ℕ} → Spelled ws (gate own) (left ∷ right ∷ ws) (own ∷ left ∷ right ∷ [])
 
 -- A text with one line for each kind, in order, and these words; then the text r
@@ -63,7 +63,7 @@ pub length-words : (k : Kind) (ns : List ℕ) → length (words k ns) ≡ width 
 unfolding words width
 length-words (input own) ns = refl
 length-words (latch own) ns = refl
-length-words lamp ns = refl
+length-words literal ns = refl
 length-words (gate own) ns = refl
 
 drop-words : (k : Kind) (ns ws : List ℕ) → drop (width k) (words k ns ++ ws) ≡ ws
@@ -73,7 +73,7 @@ rules-words : (most : ℕ) (k : Kind) (ns ws : List ℕ) → rowTests most k (wo
 unfolding words rowTests
 rules-words most (input own) ns ws = refl
 rules-words most (latch own) ns ws = refl
-rules-words most lamp ns ws = refl
+rules-words most literal ns ws = refl
 rules-words most (gate own) ns ws = refl
 
 -- ---- what describes a circuit is read
@@ -138,7 +138,7 @@ spelled (latch own) ns ws f o =
     (λ s. let e : ns ≡ own ∷ getD ns 1 0 ∷ [] = listed 2 ns (omega (arith, leb-true)) ∙ rw h in
     subst⁻¹ (Spelled ws (latch own) (words (latch own) ns ++ ws)) e (rw (List·getD-eq-default ns 0 (leb-true (length ns) 2 s)) latchPlain))
     (λ s. subst⁻¹ (Spelled ws (latch own) _) (listed 3 ns (omega (arith, leb-true, leb-false)) ∙ rw h) latchLine)
-spelled lamp ns ws f o = subst⁻¹ (Spelled ws lamp _) (listed 1 ns (eqb-true (length ns) 1 f)) lampLine
+spelled literal ns ws f o = subst⁻¹ (Spelled ws literal _) (listed 1 ns (eqb-true (length ns) 1 f)) lampLine
 spelled (gate own) ns ws f o = subst⁻¹ (Spelled ws (gate own) _) (listed 3 ns (eqb-true (length ns) 3 f) ∙ rw (eqb-true (getD ns 0 0) own o)) gateLine
 
 -- a proper end

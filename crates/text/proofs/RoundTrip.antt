@@ -8,7 +8,7 @@ use lib.Seq.{take-add, take-at, drop-at, length-take-le, take-append-seam}
 use Rattle.three.specs.Lists.{over}
 use Rattle.circuit.specs.declared.Counts.{Counts}
 use Rattle.circuit.specs.Refusal.{Test, refusal, leftBy as afterwards}
-use Rattle.circuit.specs.Table.{top, tableLength, Kind, input, latch, lamp, gate, kinds, width, rowTests, tableTests, circuitTests}
+use Rattle.circuit.specs.Table.{top, tableLength, Kind, input, latch, literal, gate, kinds, width, rowTests, tableTests, circuitTests}
 use Rattle.circuit.specs.RulesInCode.{Bounded}
 use Rattle.text.specs.Outcome.{accepted}
 use Rattle.text.specs.Text.{shown, numbers, writeBody, writeText, Content, readText}
@@ -31,8 +31,8 @@ row (latch own) [] rest w = absurd (omega arith)
 row (latch own) (a ∷ []) rest w = absurd (omega arith)
 row (latch own) (a ∷ zero ∷ ws) rest w = record { spelled = latchPlain; rules = λ most. refl }
 row (latch own) (a ∷ suc r ∷ ws) rest w = record { spelled = latchLine; rules = λ most. refl }
-row lamp [] rest w = absurd (omega arith)
-row lamp (a ∷ ws) rest w = record { spelled = lampLine; rules = λ most. refl }
+row literal [] rest w = absurd (omega arith)
+row literal (a ∷ ws) rest w = record { spelled = lampLine; rules = λ most. refl }
 row (gate own) [] rest w = absurd (omega arith)
 row (gate own) (a ∷ []) rest w = absurd (omega arith)
 row (gate own) (a ∷ b ∷ ws) rest w = record { spelled = gateLine; rules = λ most. refl }

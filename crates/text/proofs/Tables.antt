@@ -7,7 +7,7 @@ use native.Mathlib.Omega.{arith}
 use lib.ListN.{length}
 use Rattle.circuit.specs.declared.Counts.{Counts}
 use Rattle.circuit.specs.Refusal.{refusal, Passed}
-use Rattle.circuit.specs.Table.{top, ceilingTests, tableLength, Kind, input, latch, lamp, gate, several, kinds, width, tableTests, circuitTests}
+use Rattle.circuit.specs.Table.{top, ceilingTests, tableLength, Kind, input, latch, literal, gate, several, kinds, width, tableTests, circuitTests, literals}
 use Rattle.circuit.specs.RulesInCode.{Bounded}
 use Rattle.circuit.proofs.Refusals.{append-past}
 use Rattle.circuit.proofs.Legality.{bounded-passed, circuit-blocks, words-kept, words-pass}
@@ -29,7 +29,7 @@ pub size-kinds : (c : Counts) → size (kinds c) ≡ tableLength c
 unfolding kinds width size
 size-kinds c =
     let wide = size-several in
-    simp (wide input 0 (λ own. refl), wide latch 2 (λ own. refl), wide (λ own. lamp) 1 (λ own. refl), wide gate 2 (λ own. refl)) (omega arith)
+    simp (wide input 0 (λ own. refl), wide latch 2 (λ own. refl), wide (λ own. literal) 1 (λ own. refl), wide gate 2 (λ own. refl)) (omega arith)
 
 -- ---- lines of one kind from number i on, as a loop goes through them
 
@@ -57,7 +57,7 @@ module _ (kind : ℕ → Kind) (own n : ℕ) (ks : List Kind) where
 unfoldable pub due : Kind → ℕ
 due (input own) = own
 due (latch own) = own
-due lamp = 0
+due literal = 0
 due (gate own) = own
 
 -- each is at most the largest literal
@@ -76,7 +76,7 @@ unfolding kinds due
 owned-kinds c =
     owned-several (top c) (top c) input (λ own h. h) _ (c .inputs) _ (omega arith)
     (owned-several (top c) (top c) latch (λ own h. h) _ (c .latches) _ (omega arith)
-    (owned-several (top c) (2 * c .lamps) (λ own. lamp) (λ own h. omega arith) _ (c .lamps) _ (omega arith)
+    (owned-several (top c) (2 * literals c) (λ own. literal) (λ own h. omega arith) _ (literals c) _ (omega arith)
     (owned-several (top c) (top c) gate (λ own h. h) _ (c .gates) _ (omega arith) tt)))
 
 -- ---- what 3, 10 and 11 refuse

@@ -7,7 +7,7 @@ use lib.Dec.{leb, eqb}
 use lib.ListN.{length, getD, drop}
 use Rattle.circuit.specs.declared.Counts.{Counts}
 use Rattle.circuit.specs.Refusal.{Test, _or_}
-use Rattle.circuit.specs.Table.{variables, top, ceilingTests, Kind, input, latch, lamp, gate, kinds, width, rowTests}
+use Rattle.circuit.specs.Table.{variables, top, ceilingTests, Kind, input, latch, literal, gate, kinds, width, rowTests}
 use Rattle.text.specs.Part.{Part, got, ill}
 use Rattle.text.specs.Line.{newline, lineText, strip, readLine}
 use Rattle.text.specs.Outcome.{Outcome, accepted, refused, tested, further, onward}
@@ -31,7 +31,7 @@ shown (suc r) = suc r ∷ []
 unfoldable pub numbers : Kind → List ℕ → List ℕ
 numbers (input own) ws = own ∷ []
 numbers (latch own) ws = own ∷ getD ws 0 0 ∷ shown (getD ws 1 0)
-numbers lamp ws = getD ws 0 0 ∷ []
+numbers literal ws = getD ws 0 0 ∷ []
 numbers (gate own) ws = own ∷ getD ws 0 0 ∷ getD ws 1 0 ∷ []
 
 -- a line for each kind, in order
@@ -49,21 +49,21 @@ writeText c table = magic ++ (lineText (headNumbers c) ++ writeBody (kinds c) ta
 unfoldable pub fits : Kind → ℕ → Bool
 fits (input own) n = eqb n 1
 fits (latch own) n = leb 2 n && leb n 3
-fits lamp n = eqb n 1
+fits literal n = eqb n 1
 fits (gate own) n = eqb n 3
 
 -- the own literal is the one due
 unfoldable pub owns : Kind → List ℕ → Bool
 owns (input own) ns = eqb (getD ns 0 0) own
 owns (latch own) ns = eqb (getD ns 0 0) own
-owns lamp ns = true
+owns literal ns = true
 owns (gate own) ns = eqb (getD ns 0 0) own
 
 -- the words that a line gives; an absent reset is 0
 unfoldable pub words : Kind → List ℕ → List ℕ
 words (input own) ns = []
 words (latch own) ns = getD ns 1 0 ∷ getD ns 2 0 ∷ []
-words lamp ns = getD ns 0 0 ∷ []
+words literal ns = getD ns 0 0 ∷ []
 words (gate own) ns = getD ns 1 0 ∷ getD ns 2 0 ∷ []
 
 -- 4, 5, 6, then 7 or 8 for a line's numbers; `most` is the largest literal

@@ -74,7 +74,8 @@ fn tick_into(
     let mut values = pass::fresh_values();
     pass::settle(counts, table, state, switches, &mut values);
     pass::store(&values, table, 0, 2, counts.latches, next);
-    pass::store(&values, table, 2 * counts.latches, 1, counts.lamps, lamps);
+    let first = circuit::literals_at(counts);
+    pass::store(&values, table, first, 1, counts.lamps, lamps);
 }
 
 // THE PUBLIC TICK: the next state and the lamps of a state under switch settings, either with X in it.

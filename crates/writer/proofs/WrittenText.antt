@@ -7,7 +7,7 @@ use native.Mathlib.Omega.{arith}
 use lib.ListN.{length, length-append, drop}
 use lib.Seq.{drop-drop}
 use Rattle.circuit.specs.declared.Counts.{Counts}
-use Rattle.circuit.specs.Table.{Kind, several, kinds, width}
+use Rattle.circuit.specs.Table.{Kind, several, kinds, width, literals, literalsAt, gatesAt}
 use Rattle.text.specs.Line.{lineText}
 use Rattle.text.specs.Text.{magic, headNumbers, writeBody, writeText}
 use Rattle.text.specs.KindsInCode.{coded}
@@ -37,17 +37,24 @@ module _ (c : Counts) (table : List ℕ) where
   latchLines = block 1 (2 + 2 * c .inputs) (c .latches) table 0
 
   abbrev pub lampLines : List ℕ
-  lampLines = block 2 0 (c .lamps) table (2 * c .latches)
+  lampLines = block 2 0 (literals c) table (literalsAt c)
 
   abbrev pub gateLines : List ℕ
-  gateLines = block 3 (2 + 2 * c .inputs + 2 * c .latches) (c .gates) table (2 * c .latches + c .lamps)
+  gateLines = block 3 (2 + 2 * c .inputs + 2 * c .latches) (c .gates) table (gatesAt c)
+
+  -- as the code counts and places them
+  pub lamp-lines : {n at : ℕ} → n ≡ literals c → at ≡ literalsAt c → block 2 0 n table at ≡ lampLines
+  lamp-lines e f = rw (e, f)
+
+  pub gate-lines : {at : ℕ} → at ≡ gatesAt c → block 3 (2 + 2 * c .inputs + 2 * c .latches) (c .gates) table at ≡ gateLines
+  gate-lines e = rw e
 
   body-blocks : writeBody (kinds c) table ≡ inputLines ++ (latchLines ++ (lampLines ++ gateLines))
   unfolding kinds coded width block
   body-blocks =
       block-split 0 2 (c .inputs) _ table 0 0 (omega arith)
-      ∙ ap (λ t. inputLines ++ t) (block-split 1 (2 + 2 * c .inputs) (c .latches) _ table 0 (2 * c .latches) (omega arith)
-      ∙ ap (λ t. latchLines ++ t) (block-split 2 0 (c .lamps) _ table (2 * c .latches) (2 * c .latches + c .lamps) (omega arith)))
+      ∙ ap (λ t. inputLines ++ t) (block-split 1 (2 + 2 * c .inputs) (c .latches) _ table 0 (literalsAt c) (omega arith)
+      ∙ ap (λ t. latchLines ++ t) (block-split 2 0 (literals c) _ table (literalsAt c) (gatesAt c) (omega arith)))
 
   text-blocks : writeText c table ≡ ((((magic ++ lineText (headNumbers c)) ++ inputLines) ++ latchLines) ++ lampLines) ++ gateLines
   unfolding writeText
@@ -70,10 +77,10 @@ module _ (c : Counts) (table : List ℕ) where
     unfolding coded width
     lines-latches = omega arith
 
-    pub lines-lamps : Lines 2 0 (c .lamps) table (2 * c .latches)
+    pub lines-lamps : Lines 2 0 (literals c) table (literalsAt c)
     unfolding coded width
     lines-lamps = omega arith
 
-    pub lines-gates : Lines 3 (2 + 2 * c .inputs + 2 * c .latches) (c .gates) table (2 * c .latches + c .lamps)
+    pub lines-gates : Lines 3 (2 + 2 * c .inputs + 2 * c .latches) (c .gates) table (gatesAt c)
     unfolding coded width
     lines-gates = omega arith

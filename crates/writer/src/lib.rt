@@ -158,12 +158,20 @@ fn put_text(text: &mut [u8], counts: Counts, table: &[u16]) -> usize
 {
     let latch = 2 + 2 * counts.inputs;
     let gate = latch + 2 * counts.latches;
-    let lamp_words = 2 * counts.latches;
-    let gate_words = lamp_words + counts.lamps;
+    let lamp_words = circuit::literals_at(counts);
+    let gate_words = circuit::gates_at(counts);
     let inputs = put_header(text, counts);
     let latches = put_lines(text, inputs, INPUT_LINE, 2, counts.inputs, table, 0);
     let lamps = put_lines(text, latches, LATCH_LINE, latch, counts.latches, table, 0);
-    let gates = put_lines(text, lamps, LAMP_LINE, 0, counts.lamps, table, lamp_words);
+    let gates = put_lines(
+        text,
+        lamps,
+        LAMP_LINE,
+        0,
+        circuit::literals(counts),
+        table,
+        lamp_words,
+    );
     put_lines(
         text,
         gates,
@@ -246,12 +254,19 @@ fn text_length(counts: Counts, table: &[u16]) -> usize
 {
     let latch = 2 + 2 * counts.inputs;
     let gate = latch + 2 * counts.latches;
-    let lamp_words = 2 * counts.latches;
-    let gate_words = lamp_words + counts.lamps;
+    let lamp_words = circuit::literals_at(counts);
+    let gate_words = circuit::gates_at(counts);
     let inputs = header_length(counts);
     let latches = count_lines(inputs, INPUT_LINE, 2, counts.inputs, table, 0);
     let lamps = count_lines(latches, LATCH_LINE, latch, counts.latches, table, 0);
-    let gates = count_lines(lamps, LAMP_LINE, 0, counts.lamps, table, lamp_words);
+    let gates = count_lines(
+        lamps,
+        LAMP_LINE,
+        0,
+        circuit::literals(counts),
+        table,
+        lamp_words,
+    );
     count_lines(gates, GATE_LINE, gate, counts.gates, table, gate_words)
 }
 

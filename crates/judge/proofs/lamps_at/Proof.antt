@@ -11,13 +11,13 @@ use Rattle.judge.proofs.lamps_at.Tie as tie
 settle-cube-requires : tie.Need-settle-cube-requires
 settle-cube-requires c κs = search needs
 
-mul-store : tie.Need-mul-store
-mul-store c = search needs
+literals-at-requires : tie.Need-literals-at-requires
+literals-at-requires c κs = search needs
 
 store-requires : tie.Need-store-requires
 store-requires c κs =
     let pre = c .before .before .before .before .before .before .before .before .pre in
-    (lamps-readable _ _ (pre .0), c .before .before .before .settle-cube .ensures .working, omega arith, pre .4)
+    (rw (c .before .before .literals-at .ensures) (lamps-readable _ _ (pre .0)), c .before .before .before .settle-cube .ensures .working, omega arith, pre .4)
 
 same-length : tie.Need-same-length
 same-length c = search needs
@@ -26,14 +26,14 @@ returns : tie.Need-returns
 returns c =
     let pre = c .before .before .before .before .before .before .before .before .before .before .before .pre in
     let settled = c .before .before .before .before .before .before .settle-cube .ensures in
-    (ready-again _ _ _ _ settled, over-fields _ (c .before .before .store .ensures) (lamps-reached _ _ (pre .0) _ (cube-of-sized _ _) _ settled))
+    (ready-again _ _ _ _ settled, over-fields _ (rw (c .before .before .before .before .before .literals-at .ensures) at (c .before .before .store .ensures)) (lamps-reached _ _ (pre .0) _ (cube-of-sized _ _) _ settled))
 
 pub lamps-at-spec : {M : Type 1} → statement M
 lamps-at-spec =
     tie.close
     (tie.spec
     settle-cube-requires
-    mul-store
+    literals-at-requires
     store-requires
     same-length
     returns)

@@ -11,24 +11,21 @@ add-first c = search needs
 load-requires : tie.Need-load-requires
 load-requires c κs = search needs
 
-mul-lamps : tie.Need-mul-lamps
-mul-lamps c = search needs
+gates-at-requires : tie.Need-gates-at-requires
+gates-at-requires c κs = search needs
 
 add-gates : tie.Need-add-gates
 add-gates c = search needs
 
-add-gates-2 : tie.Need-add-gates-2
-add-gates-2 c = search needs
-
 gates-requires : tie.Need-gates-requires
-gates-requires c κs = (legal-gates _ _ (c .before .before .before .before .before .before .before .before .before .pre .0), c .before .before .before .before .load .ensures .working)
+gates-requires c κs = (rw (c .before .before .gates-at .ensures) (legal-gates _ _ (c .before .before .before .before .before .before .before .before .pre .0)), c .before .before .before .load .ensures .working)
 
 returns : tie.Need-returns
 returns c =
-    let pre = c .before .before .before .before .before .before .before .before .before .before .pre in
-    state-begins _ _ (pre .0) _ (length-unpack _ _) _ _ _ (pre .2) (c .before .before .before .before .before .load .ensures) (c .gates .ensures)
+    let pre = c .before .before .before .before .before .before .before .before .before .pre in
+    state-begins _ _ (pre .0) _ (length-unpack _ _) _ _ _ (pre .2) (c .before .before .before .before .load .ensures) (rw (c .before .before .before .gates-at .ensures) at (c .gates .ensures))
 
 pub settle-state-spec : {M : Type 1} → statement M
 settle-state-spec =
     tie.close
-    (tie.spec add-first load-requires mul-lamps add-gates add-gates-2 gates-requires returns)
+    (tie.spec add-first load-requires gates-at-requires add-gates gates-requires returns)

@@ -18,19 +18,17 @@ Inv-loop text at ending table₀ first next₀ i₀ i-end table next i =
 abbrev μ-loop : tie.MeasureT-loop
 μ-loop text at ending table₀ first next₀ i₀ i-end table next i = i-end - i
 
-mul-first : tie.Need-mul-first Inv-loop μ-loop
-mul-first c = omega arith
-
-add-first : tie.Need-add-first Inv-loop μ-loop
-add-first c = omega arith
+gates-at-requires : tie.Need-gates-at-requires Inv-loop μ-loop
+gates-at-requires c κs = omega arith
 
 loop-holds : tie.Need-loop-holds Inv-loop μ-loop
 loop-holds c = λ k e f. filling-first f (omega arith)
 
 line-requires : tie.Need-line-requires Inv-loop μ-loop
 line-requires c κs =
-    let start = c .before .before .before .before .before .before in
-    let turn = c .before .loop .inv (start .args .counts) refl (start .pre) in
+    let at = c .before in
+    let start = at .before .before .before .before in
+    let turn = at .loop .inv (start .args .counts) refl (rw (at .before .gates-at .ensures) (start .pre)) in
     omega arith
 
 mul-fill-pair : tie.Need-mul-fill-pair Inv-loop μ-loop
@@ -43,8 +41,9 @@ fill-pair-requires : tie.Need-fill-pair-requires Inv-loop μ-loop
 fill-pair-requires c κs =
     let line = c .before in
     let turn = line .before in
-    let start = turn .before .before .before .before .before .before in
-    filling-fits (turn .before .loop .inv (start .args .counts) refl (start .pre)) (turn .loop-test .taken) (line .line .ensures) (gate-words _ _)
+    let at = turn .before in
+    let start = at .before .before .before .before in
+    filling-fits (at .loop .inv (start .args .counts) refl (rw (at .before .gates-at .ensures) (start .pre))) (turn .loop-test .taken) (line .line .ensures) (gate-words _ _)
 
 add-i : tie.Need-add-i Inv-loop μ-loop
 add-i c = omega arith
@@ -61,14 +60,16 @@ loop-again c =
 
 same-length : tie.Need-same-length Inv-loop μ-loop
 same-length c =
-    let start = c .before .before .before .before .before .before in
-    c .before .loop .inv (start .args .counts) refl (start .pre) .on .long
+    let at = c .before in
+    let start = at .before .before .before .before in
+    at .loop .inv (start .args .counts) refl (rw (at .before .gates-at .ensures) (start .pre)) .on .long
 
 returns : tie.Need-returns Inv-loop μ-loop
 returns c =
-    let start = c .before .before .before .before .before .before in
-    let turn = c .before .loop .inv (start .args .counts) refl (start .pre) in
-    filling-last turn (c .loop-test .left) (omega arith)
+    let at = c .before in
+    let start = at .before .before .before .before in
+    let turn = at .loop .inv (start .args .counts) refl (rw (at .before .gates-at .ensures) (start .pre)) in
+    filling-last (rw (at .before .gates-at .ensures) at turn) (c .loop-test .left) (omega arith)
 
 pub fill-gates-spec : {M : Type 1} → statement M
 fill-gates-spec =
@@ -76,8 +77,7 @@ fill-gates-spec =
     (tie.spec
     Inv-loop
     μ-loop
-    mul-first
-    add-first
+    gates-at-requires
     loop-holds
     line-requires
     mul-fill-pair

@@ -1,9 +1,9 @@
 -- `reader::fill_lamps` meets its contract: a word for each lamp, as `Filling` says. The loop keeps of the counts only how many lines there are. Assumes nothing.
-use mathlib.Core.Path.{_≡_, refl}
+use mathlib.Core.Path.{_≡_, sym}
 use Prim.Native.Nat.{_+_, _-_}
 use native.Mathlib.Omega.{arith}
 use Rattle.circuit.specs.declared.Counts.{Counts}
-use Rattle.circuit.specs.Table.{lamp}
+use Rattle.circuit.specs.Table.{literals, literal}
 use Rattle.reader.specs.ReaderInCode.{lampsOn, gatesOn, stand, Fillable}
 use Rattle.lines.specs.LinesInCode.{endingBytes}
 use Rattle.reader.proofs.Filling.{lamp-words, Filling, filling-first, filling-fits, filling-next, filling-last}
@@ -12,21 +12,25 @@ use Rattle.reader.proofs.fill_lamps.Tie as tie
 
 abbrev Inv-loop : tie.InvT-loop
 Inv-loop text at ending table₀ first next₀ i₀ i-end table next i =
-    (k : Counts) → k .lamps ≡ i-end → Fillable (endingBytes ending) text k (stand (lampsOn k) at first table₀) → Filling (endingBytes ending) text k (λ own. lamp) 0 (k .lamps) (gatesOn k) (stand (lampsOn k) at first table₀) next (first + i) i table
+    (k : Counts) → literals k ≡ i-end → Fillable (endingBytes ending) text k (stand (lampsOn k) at first table₀) → Filling (endingBytes ending) text k (λ own. literal) 0 (literals k) (gatesOn k) (stand (lampsOn k) at first table₀) next (first + i) i table
 
 abbrev μ-loop : tie.MeasureT-loop
 μ-loop text at ending table₀ first next₀ i₀ i-end table next i = i-end - i
 
-mul-first : tie.Need-mul-first Inv-loop μ-loop
-mul-first c = omega arith
+literals-at-requires : tie.Need-literals-at-requires Inv-loop μ-loop
+literals-at-requires c κs = omega arith
+
+literals-requires : tie.Need-literals-requires Inv-loop μ-loop
+literals-requires c κs = omega arith
 
 loop-holds : tie.Need-loop-holds Inv-loop μ-loop
 loop-holds c = λ k e f. filling-first f (omega arith)
 
 line-requires : tie.Need-line-requires Inv-loop μ-loop
 line-requires c κs =
-    let start = c .before .before .before .before .before in
-    let turn = c .before .loop .inv (start .args .counts) refl (start .pre) in
+    let at = c .before in
+    let start = at .before .before .before .before .before in
+    let turn = at .loop .inv (start .args .counts) (sym (at .before .literals .ensures)) (rw (at .before .before .literals-at .ensures) (start .pre)) in
     omega arith
 
 entry-requires : tie.Need-entry-requires Inv-loop μ-loop
@@ -36,8 +40,9 @@ cast-table : tie.Need-cast-table Inv-loop μ-loop
 cast-table c =
     let line = c .before in
     let turn = line .before in
-    let start = turn .before .before .before .before .before in
-    let fits = filling-fits (turn .before .loop .inv (start .args .counts) refl (start .pre)) (turn .loop-test .taken) (line .line .ensures) (lamp-words _) in
+    let at = turn .before in
+    let start = at .before .before .before .before .before in
+    let fits = filling-fits (at .loop .inv (start .args .counts) (sym (at .before .literals .ensures)) (rw (at .before .before .literals-at .ensures) (start .pre))) (omega arith) (line .line .ensures) (lamp-words _) in
     omega (arith, fits .small 0)
 
 add-table : tie.Need-add-table Inv-loop μ-loop
@@ -50,8 +55,9 @@ slice-write-table : tie.Need-slice-write-table Inv-loop μ-loop
 slice-write-table c =
     let line = c .before in
     let turn = line .before in
-    let start = turn .before .before .before .before .before in
-    let fits = filling-fits (turn .before .loop .inv (start .args .counts) refl (start .pre)) (turn .loop-test .taken) (line .line .ensures) (lamp-words _) in
+    let at = turn .before in
+    let start = at .before .before .before .before .before in
+    let fits = filling-fits (at .loop .inv (start .args .counts) (sym (at .before .literals .ensures)) (rw (at .before .before .literals-at .ensures) (start .pre))) (omega arith) (line .line .ensures) (lamp-words _) in
     omega arith
 
 add-i : tie.Need-add-i Inv-loop μ-loop
@@ -68,14 +74,16 @@ loop-again c =
 
 same-length : tie.Need-same-length Inv-loop μ-loop
 same-length c =
-    let start = c .before .before .before .before .before in
-    c .before .loop .inv (start .args .counts) refl (start .pre) .on .long
+    let at = c .before in
+    let start = at .before .before .before .before .before in
+    at .loop .inv (start .args .counts) (sym (at .before .literals .ensures)) (rw (at .before .before .literals-at .ensures) (start .pre)) .on .long
 
 returns : tie.Need-returns Inv-loop μ-loop
 returns c =
-    let start = c .before .before .before .before .before in
-    let turn = c .before .loop .inv (start .args .counts) refl (start .pre) in
-    filling-last turn (c .loop-test .left) (omega arith)
+    let at = c .before in
+    let start = at .before .before .before .before .before in
+    let turn = at .loop .inv (start .args .counts) (sym (at .before .literals .ensures)) (rw (at .before .before .literals-at .ensures) (start .pre)) in
+    filling-last (rw (at .before .before .literals-at .ensures) at turn) (omega arith) (omega arith)
 
 pub fill-lamps-spec : {M : Type 1} → statement M
 fill-lamps-spec =
@@ -83,7 +91,8 @@ fill-lamps-spec =
     (tie.spec
     Inv-loop
     μ-loop
-    mul-first
+    literals-at-requires
+    literals-requires
     loop-holds
     line-requires
     entry-requires

@@ -47,6 +47,9 @@ returns-2 c =
     let inputs = latches .before .before .before in
     judged-then _ (inputs .judge-lines .ensures) (latches .before .if1 .left) (judged-stop _ (latches .judge-lines2 .ensures) (c .if2 .taken))
 
+literals-requires : tie.Need-literals-requires
+literals-requires c κs = search needs
+
 judge-lines-requires-3 : tie.Need-judge-lines-requires-3
 judge-lines-requires-3 c κs = search needs
 
@@ -54,24 +57,24 @@ returns-3 : tie.Need-returns-3
 unfolding coded
 returns-3 c =
     let lamps = c .before .before in
-    let latches = lamps .before .before .before in
+    let latches = lamps .before .before .before .before in
     let inputs = latches .before .before .before in
-    let stop = judged-stop _ (lamps .judge-lines3 .ensures) (c .if3 .taken) in
-    judged-then _ (inputs .judge-lines .ensures) (latches .before .if1 .left) (judged-then _ (latches .judge-lines2 .ensures) (lamps .before .if2 .left) stop)
+    let stop = judged-stop _ (rw (lamps .before .literals .ensures) at (lamps .judge-lines3 .ensures)) (c .if3 .taken) in
+    judged-then _ (inputs .judge-lines .ensures) (latches .before .if1 .left) (judged-then _ (latches .judge-lines2 .ensures) (lamps .before .before .if2 .left) stop)
 
 judge-lines-requires-4 : tie.Need-judge-lines-requires-4
 judge-lines-requires-4 c κs =
-    let start = c .before .before .before .before .before .before .before .before .before .before .before .before .before .before in
+    let start = c .before .before .before .before .before .before .before .before .before .before .before .before .before .before .before in
     (omega arith, omega (arith, start .pre .0))
 
 returns-4 : tie.Need-returns-4
 unfolding coded
 returns-4 c =
     let lamps = c .before .before .before in
-    let latches = lamps .before .before .before in
+    let latches = lamps .before .before .before .before in
     let inputs = latches .before .before .before in
-    let gates = judged-then _ (lamps .judge-lines3 .ensures) (c .before .if3 .left) (c .judge-lines4 .ensures) in
-    judged-then _ (inputs .judge-lines .ensures) (latches .before .if1 .left) (judged-then _ (latches .judge-lines2 .ensures) (lamps .before .if2 .left) gates)
+    let gates = judged-then _ (rw (lamps .before .literals .ensures) at (lamps .judge-lines3 .ensures)) (c .before .if3 .left) (c .judge-lines4 .ensures) in
+    judged-then _ (inputs .judge-lines .ensures) (latches .before .if1 .left) (judged-then _ (latches .judge-lines2 .ensures) (lamps .before .before .if2 .left) gates)
 
 pub judge-body-spec : {M : Type 1} → statement M
 judge-body-spec =
@@ -89,6 +92,7 @@ judge-body-spec =
     returns
     judge-lines-requires-2
     returns-2
+    literals-requires
     judge-lines-requires-3
     returns-3
     judge-lines-requires-4

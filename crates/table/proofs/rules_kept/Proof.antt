@@ -1,6 +1,6 @@
 -- `table::rules_kept` meets its contract: the table is checked kind by kind, in the order of its words. Assumes nothing.
 use borrow.Author.Tests.{not-true, not-false}
-use Rattle.circuit.proofs.Rules.{latches-break, lamps-break, gates-decide}
+use Rattle.circuit.proofs.Rules.{latches-break, literals-break, gates-decide}
 use borrow.Author.Needs.{needs}
 use Rattle.table.proofs.rules_kept.Statement.{statement}
 use Rattle.table.proofs.rules_kept.Tie as tie
@@ -29,29 +29,39 @@ add-own-2 c = search needs
 mul-own : tie.Need-mul-own
 mul-own c = search needs
 
-mul-lamps : tie.Need-mul-lamps
-mul-lamps c = search needs
-
 latches-kept-requires : tie.Need-latches-kept-requires
 latches-kept-requires c κs = search needs
 
 returns : tie.Need-returns
 returns c = latches-break _ _ (c .before .latches-kept .ensures) (not-true _ (c .if1 .taken))
 
-lamps-kept-requires : tie.Need-lamps-kept-requires
-lamps-kept-requires c κs = search needs
+literals-at-requires : tie.Need-literals-at-requires
+literals-at-requires c κs = search needs
+
+literals-requires : tie.Need-literals-requires
+literals-requires c κs = search needs
+
+literals-kept-requires : tie.Need-literals-kept-requires
+literals-kept-requires c κs = search needs
 
 returns-2 : tie.Need-returns-2
-returns-2 c = let l = c .before .before .before in lamps-break _ _ (l .latches-kept .ensures) (not-false _ (c .before .before .if1 .left)) (c .before .lamps-kept .ensures) (not-true _ (c .if2 .taken))
+returns-2 c =
+    let l = c .before .before .before in
+    let kept = rw (l .literals-at .ensures, c .before .before .literals .ensures) at (c .before .literals-kept .ensures) in
+    literals-break _ _ (l .before .before .latches-kept .ensures) (not-false _ (l .before .if1 .left)) kept (not-true _ (c .if2 .taken))
 
-add-gates-kept : tie.Need-add-gates-kept
-add-gates-kept c = search needs
+gates-at-requires : tie.Need-gates-at-requires
+gates-at-requires c κs = search needs
 
 gates-kept-requires : tie.Need-gates-kept-requires
 gates-kept-requires c κs = search needs
 
 returns-3 : tie.Need-returns-3
-returns-3 c = let m = c .before .before .before in let l = m .before .before in gates-decide _ _ (l .latches-kept .ensures) (not-false _ (m .before .if1 .left)) (m .lamps-kept .ensures) (not-false _ (c .before .before .if2 .left)) (c .gates-kept .ensures)
+returns-3 c =
+    let m = c .before .before .before in
+    let l = m .before .before in
+    let kept = rw (l .literals-at .ensures, m .before .literals .ensures) at (m .literals-kept .ensures) in
+    gates-decide _ _ (l .before .before .latches-kept .ensures) (not-false _ (l .before .if1 .left)) kept (not-false _ (c .before .before .if2 .left)) (rw (c .before .gates-at .ensures) at (c .gates-kept .ensures))
 
 pub rules-kept-spec : {M : Type 1} → statement M
 rules-kept-spec =
@@ -65,11 +75,12 @@ rules-kept-spec =
     add-own
     add-own-2
     mul-own
-    mul-lamps
     latches-kept-requires
     returns
-    lamps-kept-requires
+    literals-at-requires
+    literals-requires
+    literals-kept-requires
     returns-2
-    add-gates-kept
+    gates-at-requires
     gates-kept-requires
     returns-3)

@@ -21,13 +21,13 @@ store-requires c κs =
     let pre = c .before .before .before .before .before .before .before .before .before .before .pre in
     (next-readable _ _ (pre .0), c .before .before .settle .ensures .working, omega arith, pre .3)
 
-mul-store : tie.Need-mul-store
-mul-store c = search needs
+literals-at-requires : tie.Need-literals-at-requires
+literals-at-requires c κs = search needs
 
 store-requires-2 : tie.Need-store-requires-2
 store-requires-2 c κs =
     let pre = c .before .before .before .before .before .before .before .before .before .before .before .before .before .before .before .before .pre in
-    (lamps-readable _ _ (pre .0), c .before .before .before .before .before .before .before .before .settle .ensures .working, omega arith, pre .4)
+    (rw (c .before .before .literals-at .ensures) (lamps-readable _ _ (pre .0)), c .before .before .before .before .before .before .before .before .settle .ensures .working, omega arith, pre .4)
 
 same-length : tie.Need-same-length
 same-length c = search needs
@@ -41,7 +41,7 @@ returns c =
     let legal = c .before .before .before .before .before .before .before .before .before .before .before .before .before .before .before .before .before .before .before .pre .0 in
     let values = c .before .before .before .before .before .before .before .before .before .before .before .settle .ensures in (
       over-fields _ (c .before .before .before .before .before .before .before .before .store .ensures) (next-stored _ _ legal _ _ (length-unpack _ _) (length-unpack _ _) _ values),
-      over-fields _ (c .before .before .store2 .ensures) (lamps-stored _ _ legal _ _ (length-unpack _ _) (length-unpack _ _) _ values),
+      over-fields _ (rw (c .before .before .before .before .before .literals-at .ensures) at (c .before .before .store2 .ensures)) (lamps-stored _ _ legal _ _ (length-unpack _ _) (length-unpack _ _) _ values),
     )
 
 pub tick-into-spec : {M : Type 1} → statement M
@@ -51,7 +51,7 @@ tick-into-spec =
     fresh-values-requires
     settle-requires
     store-requires
-    mul-store
+    literals-at-requires
     store-requires-2
     same-length
     same-length-2

@@ -1,5 +1,7 @@
 -- `writer::put_text` meets its contract: the first line, and then the lines of each kind. Assumes nothing.
-use Rattle.writer.proofs.WrittenText.{put-blocks, text-length, lines-inputs, lines-latches, lines-lamps, lines-gates}
+use Rattle.writer.proofs.WrittenText.{lamp-lines, gate-lines, put-blocks, text-length, lines-inputs, lines-latches, lines-lamps, lines-gates}
+use mathlib.Core.Path.{ap}
+use lib.ListN.{length}
 use native.Mathlib.Omega.{arith}
 use Rattle.writer.proofs.put_text.Statement.{statement}
 use Rattle.writer.proofs.put_text.Tie as tie
@@ -16,11 +18,11 @@ mul-gate c = omega arith
 add-gate : tie.Need-add-gate
 add-gate c = omega arith
 
-mul-lamp-words : tie.Need-mul-lamp-words
-mul-lamp-words c = omega arith
+literals-at-requires : tie.Need-literals-at-requires
+literals-at-requires c κs = omega arith
 
-add-gate-words : tie.Need-add-gate-words
-add-gate-words c = omega arith
+gates-at-requires : tie.Need-gates-at-requires
+gates-at-requires c κs = omega arith
 
 put-header-requires : tie.Need-put-header-requires
 put-header-requires c κs =
@@ -37,15 +39,23 @@ put-lines-requires-2 c κs =
     let start = c .before .before .before .before .before .before .before .before .before .before .before .before .before .before .before in
     (lines-latches _ _ (start .pre), omega (arith, text-length (start .args .counts) (start .args .table .now)))
 
+literals-requires : tie.Need-literals-requires
+literals-requires c κs = omega arith
+
 put-lines-requires-3 : tie.Need-put-lines-requires-3
 put-lines-requires-3 c κs =
-    let start = c .before .before .before .before .before .before .before .before .before .before .before .before .before .before .before .before .before .before .before in
-    (lines-lamps _ _ (start .pre), omega (arith, text-length (start .args .counts) (start .args .table .now)))
+    let words = c .before .before .before .before .before .before .before .before .before .before .before .before .before .before in
+    let start = words .before .before .before .before .before .before in
+    let same = lamp-lines (start .args .counts) (start .args .table .now) (c .literals .ensures) (words .before .literals-at .ensures) in
+    (rw (c .literals .ensures, words .before .literals-at .ensures) (lines-lamps _ _ (start .pre)), omega (arith, text-length (start .args .counts) (start .args .table .now), ap length same, c .before .before .before .before .put-lines2 .ensures, c .before .before .before .before .before .before .before .before .put-lines .ensures, c .before .before .before .before .before .before .before .before .before .before .before .before .put-header .ensures, start .pre .fits))
 
 put-lines-requires-4 : tie.Need-put-lines-requires-4
 put-lines-requires-4 c κs =
-    let start = c .before .before .before .before .before .before .before .before .before .before .before .before .before .before .before .before .before .before .before .before .before .before .before in
-    (lines-gates _ _ (start .pre), omega (arith, text-length (start .args .counts) (start .args .table .now)))
+    let words = c .before .before .before .before .before .before .before .before .before .before .before .before .before .before .before .before .before .before in
+    let start = words .before .before .before .before .before .before in
+    let lamps = lamp-lines (start .args .counts) (start .args .table .now) (c .before .before .before .before .literals .ensures) (words .before .literals-at .ensures) in
+    let gates = gate-lines (start .args .counts) (start .args .table .now) (words .gates-at .ensures) in
+    (rw (words .gates-at .ensures) (lines-gates _ _ (start .pre)), omega (arith, text-length (start .args .counts) (start .args .table .now), ap length lamps, ap length gates, c .before .before .before .put-lines3 .ensures, c .before .before .before .before .before .before .before .before .put-lines2 .ensures, c .before .before .before .before .before .before .before .before .before .before .before .before .put-lines .ensures, c .before .before .before .before .before .before .before .before .before .before .before .before .before .before .before .before .put-header .ensures, start .pre .fits))
 
 same-length : tie.Need-same-length
 same-length c = omega arith
@@ -54,10 +64,10 @@ returns : tie.Need-returns
 returns c =
     let gates = c .before .before in
     let lamps = gates .before .before .before .before in
-    let latches = lamps .before .before .before .before in
+    let latches = lamps .before .before .before .before .before in
     let inputs = latches .before .before .before .before in
     let first = inputs .before .before .before .before in
-    put-blocks _ _ (first .put-header .ensures) (inputs .put-lines .ensures) (latches .put-lines2 .ensures) (lamps .put-lines3 .ensures) (gates .put-lines4 .ensures)
+    put-blocks _ _ (first .put-header .ensures) (inputs .put-lines .ensures) (latches .put-lines2 .ensures) (rw (lamps .before .literals .ensures, first .before .before .before .literals-at .ensures) at (lamps .put-lines3 .ensures)) (rw (first .before .before .gates-at .ensures) at (gates .put-lines4 .ensures))
 
 pub put-text-spec : {M : Type 1} → statement M
 put-text-spec =
@@ -67,11 +77,12 @@ put-text-spec =
     add-latch
     mul-gate
     add-gate
-    mul-lamp-words
-    add-gate-words
+    literals-at-requires
+    gates-at-requires
     put-header-requires
     put-lines-requires
     put-lines-requires-2
+    literals-requires
     put-lines-requires-3
     put-lines-requires-4
     same-length

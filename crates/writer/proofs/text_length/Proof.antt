@@ -1,5 +1,7 @@
 -- `writer::text_length` meets its contract: the first line, and then the lines of each kind. Assumes nothing.
-use Rattle.writer.proofs.WrittenText.{text-length, lines-inputs, lines-latches, lines-lamps, lines-gates}
+use Rattle.writer.proofs.WrittenText.{lamp-lines, gate-lines, text-length, lines-inputs, lines-latches, lines-lamps, lines-gates}
+use mathlib.Core.Path.{ap}
+use lib.ListN.{length}
 use native.Mathlib.Omega.{arith}
 use Rattle.writer.proofs.text_length.Statement.{statement}
 use Rattle.writer.proofs.text_length.Tie as tie
@@ -16,11 +18,11 @@ mul-gate c = omega arith
 add-gate : tie.Need-add-gate
 add-gate c = omega arith
 
-mul-lamp-words : tie.Need-mul-lamp-words
-mul-lamp-words c = omega arith
+literals-at-requires : tie.Need-literals-at-requires
+literals-at-requires c κs = omega arith
 
-add-gate-words : tie.Need-add-gate-words
-add-gate-words c = omega arith
+gates-at-requires : tie.Need-gates-at-requires
+gates-at-requires c κs = omega arith
 
 header-length-requires : tie.Need-header-length-requires
 header-length-requires c κs = omega arith
@@ -35,20 +37,31 @@ count-lines-requires-2 c κs =
     let start = c .before .before .before .before .before .before .before in
     (lines-latches _ _ (start .pre), omega (arith, text-length (start .args .counts) (start .args .table .now)))
 
+literals-requires : tie.Need-literals-requires
+literals-requires c κs = omega arith
+
 count-lines-requires-3 : tie.Need-count-lines-requires-3
 count-lines-requires-3 c κs =
-    let start = c .before .before .before .before .before .before .before .before in
-    (lines-lamps _ _ (start .pre), omega (arith, text-length (start .args .counts) (start .args .table .now)))
+    let words = c .before .before .before .before in
+    let start = words .before .before .before .before .before in
+    let same = lamp-lines (start .args .counts) (start .args .table .now) (c .literals .ensures) (words .before .literals-at .ensures) in
+    (rw (c .literals .ensures, words .before .literals-at .ensures) (lines-lamps _ _ (start .pre)), omega (arith, text-length (start .args .counts) (start .args .table .now), ap length same))
 
 count-lines-requires-4 : tie.Need-count-lines-requires-4
 count-lines-requires-4 c κs =
-    let start = c .before .before .before .before .before .before .before .before .before in
-    (lines-gates _ _ (start .pre), omega (arith, text-length (start .args .counts) (start .args .table .now)))
+    let words = c .before .before .before .before .before in
+    let start = words .before .before .before .before .before in
+    let lamps = lamp-lines (start .args .counts) (start .args .table .now) (c .before .literals .ensures) (words .before .literals-at .ensures) in
+    let gates = gate-lines (start .args .counts) (start .args .table .now) (words .gates-at .ensures) in
+    (rw (words .gates-at .ensures) (lines-gates _ _ (start .pre)), omega (arith, text-length (start .args .counts) (start .args .table .now), ap length lamps, ap length gates))
 
 returns : tie.Need-returns
 returns c =
-    let start = c .before .before .before .before .before .before .before .before .before .before in
-    omega (arith, text-length (start .args .counts) (start .args .table .now))
+    let words = c .before .before .before .before .before .before in
+    let start = words .before .before .before .before .before in
+    let lamps = lamp-lines (start .args .counts) (start .args .table .now) (c .before .before .literals .ensures) (words .before .literals-at .ensures) in
+    let gates = gate-lines (start .args .counts) (start .args .table .now) (words .gates-at .ensures) in
+    omega (arith, text-length (start .args .counts) (start .args .table .now), ap length lamps, ap length gates)
 
 pub text-length-spec : {M : Type 1} → statement M
 text-length-spec =
@@ -58,11 +71,12 @@ text-length-spec =
     add-latch
     mul-gate
     add-gate
-    mul-lamp-words
-    add-gate-words
+    literals-at-requires
+    gates-at-requires
     header-length-requires
     count-lines-requires
     count-lines-requires-2
+    literals-requires
     count-lines-requires-3
     count-lines-requires-4
     returns)

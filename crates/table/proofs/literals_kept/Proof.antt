@@ -1,15 +1,15 @@
--- `table::lamps_kept` meets its contract: each line is tried in turn. Assumes nothing.
+-- `table::literals_kept` meets its contract: each line is tried in turn. Assumes nothing.
 use mathlib.Core.Path.{refl}
 use Prim.Native.Nat.{_+_, _-_}
 use borrow.Author.Tests.{lt-leb, le-leb}
 use Rattle.three.proofs.Loops.{Tried, tried-first, tried-next, tried-fails, tried-all}
-use Rattle.circuit.specs.RulesInCode.{lampKept}
+use Rattle.circuit.specs.RulesInCode.{literalKept}
 use native.Mathlib.Omega.{arith}
-use Rattle.table.proofs.lamps_kept.Statement.{statement}
-use Rattle.table.proofs.lamps_kept.Tie as tie
+use Rattle.table.proofs.literals_kept.Statement.{statement}
+use Rattle.table.proofs.literals_kept.Tie as tie
 
 abbrev Inv-loop : tie.InvT-loop
-Inv-loop table at count most i₀ i = Tried count (λ k. lampKept most table (at + k)) i
+Inv-loop table at count most i₀ i = Tried count (λ k. literalKept most table (at + k)) i
 
 abbrev μ-loop : tie.MeasureT-loop
 μ-loop table at count most i₀ i = count - i
@@ -27,7 +27,7 @@ shared-slice-read-if1 : tie.Need-shared-slice-read-if1 Inv-loop μ-loop
 shared-slice-read-if1 c = omega arith
 
 returns : tie.Need-returns Inv-loop μ-loop
-unfolding lampKept
+unfolding literalKept
 returns c = tried-fails _ _ (c .before .before .loop-test .taken) refl (lt-leb _ _ (c .if1 .taken))
 
 add-i : tie.Need-add-i Inv-loop μ-loop
@@ -37,14 +37,14 @@ loop-less : tie.Need-loop-less Inv-loop μ-loop
 loop-less c = omega arith
 
 loop-again : tie.Need-loop-again Inv-loop μ-loop
-unfolding lampKept
+unfolding literalKept
 loop-again c = tried-next _ _ (c .before .before .before .loop .inv) (c .before .before .loop-test .taken) refl (le-leb _ _ (c .if1 .left))
 
 returns-2 : tie.Need-returns-2 Inv-loop μ-loop
 returns-2 c = tried-all _ _ (c .before .loop .inv) (c .loop-test .left)
 
-pub lamps-kept-spec : {M : Type 1} → statement M
-lamps-kept-spec =
+pub literals-kept-spec : {M : Type 1} → statement M
+literals-kept-spec =
     tie.close
     (tie.spec
     Inv-loop
