@@ -14,7 +14,7 @@ use Rattle.circuit.specs.Table.{variables, ceilingTests, Kind, input, latch, la
 use Rattle.circuit.specs.RulesInCode.{Bounded}
 use Rattle.circuit.proofs.Refusals.{stops, past, none}
 use Rattle.lines.specs.declared.ReadLine.{ReadLine}
-use Rattle.text.specs.Text.{fits, owns, words, lineTests, countsOf, headerTests}
+use Rattle.text.specs.Text.{fits, owns, resetWord, words, lineTests, countsOf, headerTests}
 use Rattle.lines.specs.LinesInCode.{Shape, numbersOf}
 use Rattle.text.proofs.Outcomes.{passed-refusal}
 use Rattle.text.proofs.Tables.{bounded-passed}
@@ -126,19 +126,19 @@ module _ (most own : ℕ) (l : ReadLine) (s : Shape l) where
     unfolding owns
     latch-own h = line-own most (latch own) l s latch-fits (ne-eqb _ _ h)
 
-    module _ (o : nth l 0 ≡ own) where
-      latch-words : {n : ℕ} → n ≡ refusal (leb (nth l 1) most or 6 ∷ leb (nth l 2) 1 or 8 ∷ []) → n ≡ refusal (lineTests most (latch own) (numbersOf l))
+    module _ (o : nth l 0 ≡ own) {r : ℕ} (e : r ≡ resetWord (nth l 0) (nth l 2)) where
+      latch-words : {n : ℕ} → n ≡ refusal (leb (nth l 1) most or 6 ∷ leb r 1 or 8 ∷ []) → n ≡ refusal (lineTests most (latch own) (numbersOf l))
       unfolding owns words rowTests
-      latch-words h = line-words most (latch own) l s latch-fits (eq-eqb _ _ o) h
+      latch-words h = line-words most (latch own) l s latch-fits (eq-eqb _ _ o) (rw e at h)
 
-      pub latch-over : most < nth l 1 → 6 ≡ refusal (lineTests most (latch own) (numbersOf l))
-      latch-over h = latch-words (stops _ _ (lt-leb _ _ h))
-
-      pub latch-reset : nth l 1 ≤ most → 1 < nth l 2 → 8 ≡ refusal (lineTests most (latch own) (numbersOf l))
+      pub latch-reset : nth l 1 ≤ most → 1 < r → 8 ≡ refusal (lineTests most (latch own) (numbersOf l))
       latch-reset g h = latch-words (past _ _ (le-leb _ _ g) (stops _ _ (lt-leb _ _ h)))
 
-      pub latch-passes : nth l 1 ≤ most → nth l 2 ≤ 1 → 0 ≡ refusal (lineTests most (latch own) (numbersOf l))
+      pub latch-passes : nth l 1 ≤ most → r ≤ 1 → 0 ≡ refusal (lineTests most (latch own) (numbersOf l))
       latch-passes g h = latch-words (past _ _ (le-leb _ _ g) (past _ _ (le-leb _ _ h) none))
+
+    pub latch-over : nth l 0 ≡ own → most < nth l 1 → 6 ≡ refusal (lineTests most (latch own) (numbersOf l))
+    latch-over o h = latch-words o refl (stops _ _ (lt-leb _ _ h))
 
 module _ (most own : ℕ) (l : ReadLine) (s : Shape l) where
   pub gate-count : (l .count ≡ 3 → ⊥) → 4 ≡ refusal (lineTests most (gate own) (numbersOf l))

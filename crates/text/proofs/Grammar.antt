@@ -4,7 +4,7 @@ use mathlib.Core.Path.{_≡_, refl, sym, _∙_, ap, subst⁻¹}
 use mathlib.Core.Bool.{true, false≢true}
 use mathlib.Core.List.{List, [], _∷_, _++_}
 use mathlib.Core.Logic.{_↔_}
-use Prim.Native.Nat.{ℕ, _≤_, _<_}
+use Prim.Native.Nat.{ℕ, zero, suc, _≤_, _<_}
 use native.Mathlib.Omega.{arith}
 use borrow.Author.Tests.{eqb-true, leb-true, leb-false, eq-eqb}
 use lib.Dec.{leb}
@@ -19,7 +19,7 @@ use Rattle.circuit.specs.RulesInCode.{Bounded}
 use Rattle.text.specs.Part.{got, ill}
 use Rattle.text.specs.Line.{newline, endedLine, strip, mostNumbers}
 use Rattle.text.specs.Outcome.{accepted, onward}
-use Rattle.text.specs.Text.{magic, headNumbers, fits, owns, words, lineTests, comment, ends, Lines, inFront, readLines, header, countsOf, headerTests, Content, readEnded, readText}
+use Rattle.text.specs.Text.{magic, headNumbers, fits, owns, words, lineTests, comment, ends, Lines, inFront, readLines, header, countsOf, headerTests, Content, readEnded, readText, resetWord, shown}
 use Rattle.text.proofs.Parts.{by-part}
 use Rattle.circuit.proofs.Refusals.{passed-append}
 use Rattle.text.proofs.Outcomes.{accepted-same, append-passed, passed-refusal}
@@ -27,10 +27,10 @@ use Rattle.text.proofs.Lines.{strip-front, front-strip, Short, Proper, 
 use Rattle.text.proofs.Steps.{end-fits, line-fits, LineRead, line-accepted, line-numbered, header-fits, header-accepted}
 use Rattle.text.proofs.Tables.{size, size-kinds, due, Owned, owned-kinds, passed-bounded, bounded-passed, Taken, taken, taken-refusal}
 
--- A line's kind, its words in front of the words ws, and its numbers; a reset of 0 may be absent
+-- A line's kind, its words in front of the words ws, and its numbers; the reset may be absent, which is 0
 pub data Spelled (ws : List ℕ) : Kind → List ℕ → List ℕ → Type 0 where
   inputLine : {own : ℕ} → Spelled ws (input own) ws (own ∷ [])
-  latchLine : {own next reset : ℕ} → Spelled ws (latch own) (next ∷ reset ∷ ws) (own ∷ next ∷ reset ∷ [])
+  latchLine : {own next reset : ℕ} → Spelled ws (latch own) (next ∷ resetWord own reset ∷ ws) (own ∷ next ∷ reset ∷ [])
   latchPlain : {own next : ℕ} → Spelled ws (latch own) (next ∷ 0 ∷ ws) (own ∷ next ∷ [])
   lampLine : {literal : ℕ} → Spelled ws lamp (literal ∷ ws) (literal ∷ [])
   gateLine : {own left right : ℕ} → Spelled ws (gate own) (left ∷ right ∷ ws) (own ∷ left ∷ right ∷ [])
@@ -55,6 +55,23 @@ pub record Describes (ending t : List ℕ) (c : Content) : Type 0 where
   pub rest : List ℕ
   pub says : Says ending rest (kinds (c .counts)) (c .words) body
   pub closes : Closing ending rest
+
+-- ---- the reset of a latch
+
+reset-absent : (own : ℕ) → resetWord own 0 ≡ 0
+unfolding resetWord
+reset-absent own = refl
+
+-- a reset word that 8 does not refuse is of a number of at most five digits
+reset-short : (own r : ℕ) → resetWord own r ≤ 1 → r < 100000
+unfolding resetWord
+reset-short own r h = omega arith
+
+-- what a latch shows is read as its reset word
+pub shown-spelled : (own next reset : ℕ) (ws : List ℕ) → Spelled ws (latch own) (next ∷ reset ∷ ws) (own ∷ next ∷ shown own reset)
+unfolding shown resetWord
+shown-spelled own next zero ws = latchPlain
+shown-spelled own next (suc r) ws = latchLine
 
 -- ---- a line's words at the front of the table
 
@@ -86,8 +103,8 @@ record Seen (most : ℕ) (k : Kind) (all ws ns : List ℕ) : Type 0 where
 seen : {most : ℕ} {k : Kind} {all ws ns : List ℕ} → most < 100000 → due k ≤ most → Spelled ws k all ns → Passed (rowTests most k all) → Seen most k all ws ns
 unfolding due lineTests fits owns words rowTests
 seen m d (inputLine {own = own}) p = record { shape = omega arith; passes = (refl, (eq-eqb own own refl, p)); gives = refl }
-seen m d (latchLine {own = own}) p = record { shape = omega (arith, leb-true); passes = (refl, (eq-eqb own own refl, p)); gives = refl }
-seen m d (latchPlain {own = own}) p = record { shape = omega (arith, leb-true); passes = (refl, (eq-eqb own own refl, p)); gives = refl }
+seen m d (latchLine {own = own} {reset = reset}) p = record { shape = omega (arith, leb-true, reset-short own reset (leb-true _ 1 (p .1 .0))); passes = (refl, (eq-eqb own own refl, p)); gives = refl }
+seen m d (latchPlain {own = own}) p = record { shape = omega (arith, leb-true); passes = (refl, (eq-eqb own own refl, rw (reset-absent own) p)); gives = rw (reset-absent own) }
 seen m d lampLine p = record { shape = omega (arith, leb-true); passes = (refl, (refl, p)); gives = refl }
 seen m d (gateLine {own = own}) p = record { shape = omega (arith, leb-true); passes = (refl, (eq-eqb own own refl, p)); gives = refl }
 
@@ -135,8 +152,9 @@ spelled (latch own) ns ws f o =
     let h : getD ns 0 0 ≡ own = eqb-true (getD ns 0 0) own o in
     by-test (leb (length ns) 2)
     (λ s. let e : ns ≡ own ∷ getD ns 1 0 ∷ [] = listed 2 ns (omega (arith, leb-true)) ∙ rw h in
-    subst⁻¹ (Spelled ws (latch own) (words (latch own) ns ++ ws)) e (rw (List·getD-eq-default ns 0 (leb-true (length ns) 2 s)) latchPlain))
-    (λ s. subst⁻¹ (Spelled ws (latch own) _) (listed 3 ns (omega (arith, leb-true, leb-false)) ∙ rw h) latchLine)
+    subst⁻¹ (Spelled ws (latch own) (words (latch own) ns ++ ws)) e (rw (List·getD-eq-default ns 0 (leb-true (length ns) 2 s), reset-absent) latchPlain))
+    (λ s. let e : ns ≡ own ∷ getD ns 1 0 ∷ getD ns 2 0 ∷ [] = listed 3 ns (omega (arith, leb-true, leb-false)) ∙ rw h in
+    subst⁻¹ (Spelled ws (latch own) (words (latch own) ns ++ ws)) e (rw h latchLine))
 spelled lamp ns ws f o = subst⁻¹ (Spelled ws lamp _) (listed 1 ns (eqb-true (length ns) 1 f)) lampLine
 spelled (gate own) ns ws f o = subst⁻¹ (Spelled ws (gate own) _) (listed 3 ns (eqb-true (length ns) 3 f) ∙ rw (eqb-true (getD ns 0 0) own o)) gateLine
 
