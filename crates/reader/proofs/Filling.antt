@@ -18,7 +18,7 @@ use Rattle.lines.specs.LinesInCode.{from, numbersOf, LineFound}
 use Rattle.reader.specs.ReaderInCode.{pairOf, WordsFit, linesOf, bodyWords, Stand, stand, Fillable, Filled}
 use Rattle.text.proofs.Steps.{LineRead, line-accepted, line-numbered}
 use Rattle.text.proofs.Outcomes.{accepted-same}
-use Rattle.reader.proofs.Bodies.{line-read}
+use Rattle.lines.proofs.Finding.{line-read}
 use Rattle.text.proofs.Stores.{sets-append, sets-front}
 use Rattle.text.proofs.Tables.{linesFrom, lines-first, lines-next, lines-last}
 

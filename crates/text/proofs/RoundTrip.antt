@@ -14,7 +14,8 @@ use Rattle.text.specs.Outcome.{accepted}
 use Rattle.text.specs.Text.{numbers, writeBody, writeText, Content, readText}
 use Rattle.text.specs.Calls.{Reading, Writing}
 use Rattle.text.proofs.Tables.{size, size-kinds, Taken, taken, taken-refusal}
-use Rattle.text.proofs.Grammar.{Spelled, shown-spelled, inputLine, lampLine, gateLine, Says, stop, line, done, Describes, described, describes}
+use Rattle.text.proofs.Grammar.{Says, stop, line, done, Describes, described, describes}
+use Rattle.text.proofs.Spelling.{Spelled, shown-spelled, inputLine, lampLine, gateLine}
 use Rattle.text.proofs.Bound.{text-bound}
 use Rattle.text.proofs.Answers.{read-fits, reading-accepted, write-legal}
 use Rattle.text.specs.Line.{newline}

@@ -18,14 +18,6 @@ use Rattle.writer.specs.WriterInCode.{andMore, lineNumbers, countNumbers
 
 -- ---- by how many numbers it has
 
-none-text : (m a b c : ℕ) → m ≡ 0 → lineText (andMore m a b c) ≡ decimal a ++ newline
-unfolding endedLine andMore
-none-text m a b c e = rw (e, andMore)
-
-one-text : (m a b c : ℕ) → m ≡ 1 → lineText (andMore m a b c) ≡ (decimal a ++ space) ++ (decimal b ++ newline)
-unfolding endedLine andMore
-one-text m a b c e = rw (e, andMore) (simp append-assoc)
-
 two-text : (m a b c : ℕ) → (m ≡ 0 → ⊥) → (m ≡ 1 → ⊥) → lineText (andMore m a b c) ≡ ((decimal a ++ space) ++ (decimal b ++ space)) ++ (decimal c ++ newline)
 unfolding endedLine andMore
 two-text zero a b c f g = absurd (f refl)
@@ -45,14 +37,16 @@ word n behind = decimal n ++ (behind ∷ [])
 module _ (l : LineNumbers) where
   -- one number
   pub none-line : l .more ≡ 0 → lineText (lineNumbers l) ≡ word (l .first) 10
-  none-line e = none-text _ _ _ _ e
+  unfolding endedLine andMore
+  none-line e = rw (e, andMore)
 
   pub none-length : l .more ≡ 0 → length (lineText (lineNumbers l)) ≡ length (decimal (l .first)) + 1
   none-length e = rw (none-line e) (simp length-append)
 
   -- two
   pub one-line : l .more ≡ 1 → lineText (lineNumbers l) ≡ word (l .first) 32 ++ word (l .second) 10
-  one-line e = one-text _ _ _ _ e
+  unfolding endedLine andMore
+  one-line e = rw (e, andMore) (simp append-assoc)
 
   pub one-length : l .more ≡ 1 → length (lineText (lineNumbers l)) ≡ length (decimal (l .first)) + 1 + (length (decimal (l .second)) + 1)
   one-length e = rw (one-line e) (simp length-append)

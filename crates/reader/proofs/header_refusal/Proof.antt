@@ -1,6 +1,6 @@
 -- `reader::header_refusal` meets its contract: its tests are made in the order of the document, and those after the first all have the number 3. Assumes nothing.
 use native.Mathlib.Omega.{arith}
-use Rattle.reader.proofs.Judging.{header-count, header-inputs, header-latches, header-lamps, header-gates, header-sum, header-passes}
+use Rattle.reader.proofs.Opening.{header-count, header-inputs, header-latches, header-lamps, header-gates, header-sum, header-passes}
 use borrow.Author.Needs.{needs}
 use Rattle.reader.proofs.header_refusal.Statement.{statement}
 use Rattle.reader.proofs.header_refusal.Tie as tie
