@@ -15,7 +15,7 @@ use Rattle.text.specs.Part.{got, ill}
 use Rattle.text.specs.Decimal.{isDigit, mayGrow, readOn, readNumber}
 use Rattle.lines.specs.declared.ReadNumber.the-variants.{Value, NoNumber}
 use Rattle.lines.specs.LinesInCode.{from, leading, numberPart, numberEnd, NumberFound}
-use Rattle.text.proofs.Decimals.{digit-bounds, bounds-digit, grow-bounds, first-none, first-digit, first-other, next-none, next-digit, next-over, next-other}
+use Rattle.text.proofs.Numerals.{digit-bounds, bounds-digit, grow-bounds, first-none, first-digit, first-other, next-none, next-digit, next-over, next-other}
 
 -- ---- a text from a position on
 

@@ -4,6 +4,7 @@ ghost use mathlib.Core.List.{List};
 ghost use Prim.Native.Nat.{ℕ, _≤_, _<_};
 ghost use lib.ListN.{length, getD};
 ghost use Rattle.text.specs.Decimal.{mayGrow, readNumber};
+ghost use Rattle.text.specs.Text.{resetWord};
 ghost use Rattle.text.specs.Line.{mostNumbers, readLine};
 ghost use Rattle.text.specs.Part.{ill};
 ghost use Rattle.lines.specs.LinesInCode.{from, leading, NumberFound, endingBytes, EndingAt, FoundInLine, numbersOf, LineFound};
@@ -169,4 +170,11 @@ pub fn entry(found: ReadLine, i: usize) -> usize
     }
     let numbers = found.numbers;
     numbers[i]
+}
+
+// The reset word of a latch's line.
+pub fn reset_word(found: ReadLine) -> usize
+    ensures { λ r. ⌜ r ≡ resetWord (getD (numbersOf found) 0 0) (getD (numbersOf found) 2 0) ⌝ }
+{
+    entry(found, 2)
 }

@@ -29,8 +29,9 @@ use Rattle.text.proofs.Steps.{header-ill, header-stops, header-fits, lines-stop
 use Rattle.text.proofs.Outcomes.{accepted-same}
 use Rattle.text.proofs.Grammar.{describes}
 use Rattle.text.proofs.Answers.{read-stops, read-short, read-fits, reading-refused, reading-accepted}
-use Rattle.reader.proofs.Judging.{header-count}
-use Rattle.reader.proofs.Bodies.{line-got, line-ill-formed, refused-left, accepted-left, after-refused, after-none}
+use Rattle.reader.proofs.Opening.{header-count}
+use Rattle.reader.proofs.Bodies.{refused-left, accepted-left, after-refused, after-none}
+use Rattle.lines.proofs.Finding.{line-got, line-ill-formed}
 use Rattle.text.specs.Line.{newline}
 
 -- ---- the first pass

@@ -3,49 +3,29 @@ use mathlib.Core.Path.{_≡_, refl, sym, _∙_, ap}
 use mathlib.Core.Bool.{false, true, not}
 use mathlib.Core.List.{List, _∷_}
 use Prim.Native.Nat.{ℕ, zero, suc, _+_, _*_, _-_, _≤_, _<_}
-use native.Mathlib.Nat.{not-suc-le-zero}
 use native.Mathlib.Omega.{arith}
 use borrow.Author.Tests.{ltb-true, ltb-false, eqb-true, eqb-false, ne-eqb}
 use lib.Dec.{ltb, eqb}
-use lib.ListN.{length, getD, take}
+use lib.ListN.{length, getD}
 use Rattle.three.proofs.Lists.{by-test}
 use Rattle.circuit.specs.Table.{Kind, input, latch, gate, several, literal}
 use Rattle.circuit.specs.Refusal.{Test, refusal}
-use Rattle.text.specs.Part.{Part, got, ill}
+use Rattle.text.specs.Part.{got}
 use Rattle.text.specs.Line.{strip, readLine}
 use Rattle.text.specs.Outcome.{Outcome, accepted, refused, after, onward}
 use Rattle.text.specs.Text.{fits, lineTests, comment, ends, Lines, inFront, readLines}
 use Rattle.lines.specs.declared.ReadLine.{ReadLine}
 use Rattle.reader.specs.declared.Judged.{Judged}
-use Rattle.lines.specs.LinesInCode.{from, EndingAt, counted, numbersOf, LineFound}
+use Rattle.lines.specs.LinesInCode.{from, EndingAt, numbersOf, LineFound}
 use Rattle.reader.specs.ReaderInCode.{left, LinesJudged}
 use Rattle.text.proofs.Outcomes.{accepted-same, refused-accepted}
 use Rattle.text.proofs.Steps.{line-ill, line-stops, line-fits}
 use Rattle.lines.proofs.Numbers.{from-end, from-byte}
-use Rattle.lines.proofs.Finding.{ending-none, ending-some}
+use Rattle.lines.proofs.Endings.{ending-none, ending-some}
 use Rattle.text.proofs.Lines.{strip-other, strip-same}
 use Rattle.text.proofs.Tables.{linesFrom, lines-first, lines-next, lines-last}
 use Rattle.reader.proofs.Judging.{line-count}
-
--- ---- a line found
-
-pub line-got : {text : List ℕ} {p : Part (List ℕ)} (l : ReadLine) → LineFound text p l → 0 < l .count → p ≡ got (numbersOf l) (from text (l .next))
-unfolding counted numbersOf
-line-got {text} l f h = f .reads ∙ go (l .count) h
-  where
-    go : (n : ℕ) → 0 < n → counted n (l .numbers) (from text (l .next)) ≡ got (take n (l .numbers)) (from text (l .next))
-    go zero q = absurd (not-suc-le-zero q)
-    go (suc n) q = refl
-
-pub line-ill-formed : {text : List ℕ} {p : Part (List ℕ)} (l : ReadLine) → LineFound text p l → l .count ≡ 0 → p ≡ ill
-unfolding counted
-line-ill-formed l f e = f .reads ∙ rw e
-
--- the line's numbers and position, where it is read
-pub line-read : {text : List ℕ} {p : Part (List ℕ)} {ns rest : List ℕ} (l : ReadLine) → LineFound text p l → p ≡ got ns rest → (numbersOf l ≡ ns) × (from text (l .next) ≡ rest)
-line-read l f e = by-test (ltb 0 (l .count))
-    (λ h. let g = line-got l f (ltb-true 0 (l .count) h) in (cc, cc))
-    (λ h. let z : l .count ≡ 0 = omega (arith, ltb-false 0 (l .count) h) in let g = line-ill-formed l f z in absurd (let z : _≡_ {A = ℕ} 0 1 = cc in omega arith))
+use Rattle.lines.proofs.Finding.{line-got, line-ill-formed}
 
 -- ---- the text that lines leave
 

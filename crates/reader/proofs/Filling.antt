@@ -12,13 +12,13 @@ use Rattle.circuit.specs.Refusal.{Passed}
 use Rattle.circuit.specs.Table.{top, Kind, input, latch, gate, several, rowTests, literal}
 use Rattle.text.specs.Line.{readLine}
 use Rattle.text.specs.Outcome.{accepted, leaves}
-use Rattle.text.specs.Text.{words, lineTests, Lines, inFront, readLines}
+use Rattle.text.specs.Text.{resetWord, words, lineTests, Lines, inFront, readLines}
 use Rattle.lines.specs.declared.ReadLine.{ReadLine}
 use Rattle.lines.specs.LinesInCode.{from, numbersOf, LineFound}
 use Rattle.reader.specs.ReaderInCode.{pairOf, WordsFit, linesOf, bodyWords, Stand, stand, Fillable, Filled}
 use Rattle.text.proofs.Steps.{LineRead, line-accepted, line-numbered}
 use Rattle.text.proofs.Outcomes.{accepted-same}
-use Rattle.reader.proofs.Bodies.{line-read}
+use Rattle.lines.proofs.Finding.{line-read}
 use Rattle.text.proofs.Stores.{sets-append, sets-front}
 use Rattle.text.proofs.Tables.{linesFrom, lines-first, lines-next, lines-last}
 
@@ -29,13 +29,13 @@ module _ (own : ℕ) (ns : List ℕ) where
   unfolding words
   input-words = refl
 
-  pub latch-words : pairOf ns ≡ words (latch own) ns
+  pub latch-words : {r : ℕ} → r ≡ resetWord (getD ns 0 0) (getD ns 2 0) → pairOf ns r ≡ words (latch own) ns
   unfolding words
-  latch-words = refl
+  latch-words e = rw e
 
-  pub gate-words : pairOf ns ≡ words (gate own) ns
+  pub gate-words : {r : ℕ} → r ≡ getD ns 2 0 → pairOf ns r ≡ words (gate own) ns
   unfolding words
-  gate-words = refl
+  gate-words e = rw e
 
 pub lamp-words : (ns : List ℕ) → getD ns 0 0 ∷ [] ≡ words literal ns
 unfolding words

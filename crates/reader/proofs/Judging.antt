@@ -1,50 +1,19 @@
--- The reader's tests, in the order of the refusals: what each return says of the first line, and of a line of each kind. Assumes nothing.
-use mathlib.Core.Path.{_≡_, refl, sym, _∙_}
-use mathlib.Core.Bool.{Bool, true, false}
-use mathlib.Core.List.{List, [], _∷_}
+-- The reader's tests, in the order of the refusals: what each return says of a line of each kind. Assumes nothing.
+use mathlib.Core.Path.{_≡_, refl}
+use mathlib.Core.Bool.{true, false}
+use mathlib.Core.List.{[], _∷_}
 use Prim.Native.Nat.{ℕ, _≤_, _<_}
 use native.Mathlib.Omega.{arith}
 use borrow.Author.Tests.{eq-eqb, ne-eqb, le-leb, lt-leb, lt-ltb, le-ltb}
-use lib.Dec.{leb, ltb, eqb}
+use lib.Dec.{leb, ltb}
 use lib.ListN.{getD}
-use Rattle.three.proofs.Lists.{by-test}
-use Rattle.circuit.specs.declared.Counts.{Counts}
-use Rattle.circuit.specs.Refusal.{Test, _or_, refusal}
-use Rattle.circuit.specs.Table.{variables, ceilingTests, Kind, input, latch, literal, gate, rowTests}
-use Rattle.circuit.proofs.Refusals.{stops, past, none, passed-refusal, fails}
+use Rattle.circuit.specs.Refusal.{_or_, refusal}
+use Rattle.circuit.specs.Table.{Kind, input, latch, literal, gate, rowTests}
+use Rattle.circuit.proofs.Refusals.{stops, past, none}
 use Rattle.lines.specs.declared.ReadLine.{ReadLine}
-use Rattle.text.specs.Text.{fits, owns, words, lineTests, countsOf, headerTests}
+use Rattle.text.specs.Text.{fits, owns, resetWord, words, lineTests}
 use Rattle.lines.specs.LinesInCode.{Shape, numbersOf}
-use Rattle.circuit.proofs.Legality.{ceilings-alike}
 use Rattle.lines.proofs.Finding.{line-length}
-
--- a test with the number that the others give anyway
-either : (b : Bool) (ts : List Test) {k : ℕ} → k ≡ refusal ts → k ≡ refusal (b or k ∷ ts)
-either b ts h = by-test b (λ e. past _ ts e h) (stops _ ts)
-
--- ---- the first line: the ceilings, and then M
-
-module _ (l : ReadLine) (s : Shape l) where
-  pub header-count : (l .count ≡ 5 → ⊥) → 2 ≡ refusal (headerTests (numbersOf l))
-  unfolding headerTests
-  header-count h = stops _ _ (rw (line-length l s) (ne-eqb (l .count) 5 h))
-
-  module _ (five : l .count ≡ 5) {c : Counts} (e : c ≡ countsOf (numbersOf l)) where
-    header-past : {k : ℕ} → k ≡ refusal (eqb (getD (numbersOf l) 0 0) (variables c) or 3 ∷ ceilingTests c) → k ≡ refusal (headerTests (numbersOf l))
-    unfolding headerTests
-    header-past h = past _ _ (rw (line-length l s) (eq-eqb (l .count) 5 five)) (rw e at h)
-
-    pub header-over : {k : ℕ} → k ≡ refusal (ceilingTests c) → (k ≡ 0 → ⊥) → 3 ≡ refusal (headerTests (numbersOf l))
-    header-over r h = header-past (either _ _ (fails 3 (ceilingTests c) (ceilings-alike c) (λ p. h (r ∙ sym (passed-refusal (ceilingTests c) p)))))
-
-    module _ {m : ℕ} (given : m ≡ getD (numbersOf l) 0 0) where
-      pub header-sum : (m ≡ variables c → ⊥) → 3 ≡ refusal (headerTests (numbersOf l))
-      header-sum h = header-past (stops _ _ (ne-eqb _ _ (λ q. h (given ∙ q))))
-
-      pub header-passes : {k : ℕ} → k ≡ refusal (ceilingTests c) → k ≡ 0 → m ≡ variables c → 0 ≡ refusal (headerTests (numbersOf l))
-      header-passes r z h = header-past (past _ _ (eq-eqb _ _ (sym given ∙ h)) (sym z ∙ r))
-
--- ---- a line: its count, its own literal, and then its words
 
 -- number i of a line
 abbrev pub nth : ReadLine → ℕ → ℕ
@@ -108,19 +77,19 @@ module _ (most own : ℕ) (l : ReadLine) (s : Shape l) where
     unfolding owns
     latch-own h = line-own most (latch own) l s latch-fits (ne-eqb _ _ h)
 
-    module _ (o : nth l 0 ≡ own) where
-      latch-words : {n : ℕ} → n ≡ refusal (leb (nth l 1) most or 6 ∷ leb (nth l 2) 1 or 8 ∷ []) → n ≡ refusal (lineTests most (latch own) (numbersOf l))
+    module _ (o : nth l 0 ≡ own) {r : ℕ} (e : r ≡ resetWord (nth l 0) (nth l 2)) where
+      latch-words : {n : ℕ} → n ≡ refusal (leb (nth l 1) most or 6 ∷ leb r 1 or 8 ∷ []) → n ≡ refusal (lineTests most (latch own) (numbersOf l))
       unfolding owns words rowTests
-      latch-words h = line-words most (latch own) l s latch-fits (eq-eqb _ _ o) h
+      latch-words h = line-words most (latch own) l s latch-fits (eq-eqb _ _ o) (rw e at h)
 
-      pub latch-over : most < nth l 1 → 6 ≡ refusal (lineTests most (latch own) (numbersOf l))
-      latch-over h = latch-words (stops _ _ (lt-leb _ _ h))
-
-      pub latch-reset : nth l 1 ≤ most → 1 < nth l 2 → 8 ≡ refusal (lineTests most (latch own) (numbersOf l))
+      pub latch-reset : nth l 1 ≤ most → 1 < r → 8 ≡ refusal (lineTests most (latch own) (numbersOf l))
       latch-reset g h = latch-words (past _ _ (le-leb _ _ g) (stops _ _ (lt-leb _ _ h)))
 
-      pub latch-passes : nth l 1 ≤ most → nth l 2 ≤ 1 → 0 ≡ refusal (lineTests most (latch own) (numbersOf l))
+      pub latch-passes : nth l 1 ≤ most → r ≤ 1 → 0 ≡ refusal (lineTests most (latch own) (numbersOf l))
       latch-passes g h = latch-words (past _ _ (le-leb _ _ g) (past _ _ (le-leb _ _ h) none))
+
+    pub latch-over : nth l 0 ≡ own → most < nth l 1 → 6 ≡ refusal (lineTests most (latch own) (numbersOf l))
+    latch-over o h = latch-words o refl (stops _ _ (lt-leb _ _ h))
 
 module _ (most own : ℕ) (l : ReadLine) (s : Shape l) where
   pub gate-count : (l .count ≡ 3 → ⊥) → 4 ≡ refusal (lineTests most (gate own) (numbersOf l))

@@ -1,19 +1,28 @@
--- The first line of a text, found at its positions. Assumes nothing.
+-- The first line of a text: found at its positions, and what each of its tests says. Assumes nothing.
 use mathlib.Core.Path.{_≡_, sym, _∙_}
 use mathlib.Core.Bool.{Bool, true, false, false≢true, true≢false}
-use mathlib.Core.List.{List}
+use mathlib.Core.List.{List, _∷_}
 use Prim.Native.Nat.{ℕ, _-_, _≤_, _<_}
-use borrow.Author.Tests.{ltb-true, ltb-false}
-use lib.Dec.{ltb}
-use lib.ListN.{length}
+use borrow.Author.Tests.{ltb-true, ltb-false, eq-eqb, ne-eqb}
+use lib.Dec.{ltb, eqb}
+use lib.ListN.{length, getD}
 use Rattle.three.proofs.Lists.{by-test}
 use Rattle.text.specs.Part.{ill}
 use Rattle.text.specs.Line.{strip, readLine}
-use Rattle.text.specs.Text.{magic, header}
-use Rattle.lines.specs.LinesInCode.{from}
+use Rattle.text.specs.Text.{magic, header, countsOf, headerTests}
+use Rattle.lines.specs.LinesInCode.{from, Shape, numbersOf}
 use Rattle.reader.specs.ReaderInCode.{opened}
 use Rattle.text.proofs.Parts.{by-part}
 use Rattle.text.proofs.Lines.{opening, strip-short, strip-alike, strip-unlike}
+use Rattle.circuit.specs.declared.Counts.{Counts}
+use Rattle.circuit.specs.Refusal.{Test, _or_, refusal}
+use Rattle.circuit.specs.Table.{variables, ceilingTests}
+use Rattle.circuit.proofs.Refusals.{stops, past, fails, passed-refusal}
+use Rattle.lines.specs.declared.ReadLine.{ReadLine}
+use Rattle.lines.proofs.Finding.{line-length}
+use Rattle.circuit.proofs.Legality.{ceilings-alike}
+
+-- ---- found at its positions
 
 module _ (text : List ℕ) where
   pub opened-short : length text < 4 → false ≡ opened text
@@ -40,3 +49,29 @@ module _ (text : List ℕ) where
   header-line ending e t =
       let h = opened-long e t in
       rw (header, strip-alike magic text h (opened-alike h ∙ sym e ∙ t))
+
+-- ---- its refusals: the ceilings, and then M
+
+-- a test with the number that the others give anyway
+either : (b : Bool) (ts : List Test) {k : ℕ} → k ≡ refusal ts → k ≡ refusal (b or k ∷ ts)
+either b ts h = by-test b (λ e. past _ ts e h) (stops _ ts)
+
+module _ (l : ReadLine) (s : Shape l) where
+  pub header-count : (l .count ≡ 5 → ⊥) → 2 ≡ refusal (headerTests (numbersOf l))
+  unfolding headerTests
+  header-count h = stops _ _ (rw (line-length l s) (ne-eqb (l .count) 5 h))
+
+  module _ (five : l .count ≡ 5) {c : Counts} (e : c ≡ countsOf (numbersOf l)) where
+    header-past : {k : ℕ} → k ≡ refusal (eqb (getD (numbersOf l) 0 0) (variables c) or 3 ∷ ceilingTests c) → k ≡ refusal (headerTests (numbersOf l))
+    unfolding headerTests
+    header-past h = past _ _ (rw (line-length l s) (eq-eqb (l .count) 5 five)) (rw e at h)
+
+    pub header-over : {k : ℕ} → k ≡ refusal (ceilingTests c) → (k ≡ 0 → ⊥) → 3 ≡ refusal (headerTests (numbersOf l))
+    header-over r h = header-past (either _ _ (fails 3 (ceilingTests c) (ceilings-alike c) (λ p. h (r ∙ sym (passed-refusal (ceilingTests c) p)))))
+
+    module _ {m : ℕ} (given : m ≡ getD (numbersOf l) 0 0) where
+      pub header-sum : (m ≡ variables c → ⊥) → 3 ≡ refusal (headerTests (numbersOf l))
+      header-sum h = header-past (stops _ _ (ne-eqb _ _ (λ q. h (given ∙ q))))
+
+      pub header-passes : {k : ℕ} → k ≡ refusal (ceilingTests c) → k ≡ 0 → m ≡ variables c → 0 ≡ refusal (headerTests (numbersOf l))
+      header-passes r z h = header-past (past _ _ (eq-eqb _ _ (sym given ∙ h)) (sym z ∙ r))

@@ -61,9 +61,9 @@ TextJudged ending text (Body c at) = BodyAt ending text c at
 
 -- ---- the second pass
 
--- the second and the third number of a line
-abbrev pub pairOf : List ℕ → List ℕ
-pairOf ns = getD ns 1 0 ∷ getD ns 2 0 ∷ []
+-- the second number of a line, and another word
+abbrev pub pairOf : List ℕ → ℕ → List ℕ
+pairOf ns second = getD ns 1 0 ∷ second ∷ []
 
 -- Words of 16 bits, and a table with room for them from word p on
 pub record WordsFit (ws : List ℕ) (p : ℕ) (table : List ℕ) : Type 0 where

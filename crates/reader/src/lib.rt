@@ -107,7 +107,7 @@ fn latch_refusal(own: usize, most: usize, found: ReadLine) -> u32
     if lines::entry(found, 1) > most {
         return 6;
     }
-    if lines::entry(found, 2) > 1 {
+    if lines::reset_word(found) > 1 {
         return 8;
     }
     0
@@ -305,13 +305,13 @@ fn judge(text: &[u8], ending: Ending) -> Judgement
     Judgement::Body(counts, first.next)
 }
 
-// The second and the third number of a line, stored from word p on.
-fn fill_pair(found: ReadLine, table: &mut [u16], p: usize)
-    requires { ⌜ WordsFit (pairOf (numbersOf found)) p (now table) ⌝ }
-    ensures { λ _. ⌜ now (table .exit) ≡ sets (now (table .entry)) p (pairOf (numbersOf found)) ⌝ }
+// A line's two words, stored from word p on; the first is its second number.
+fn fill_pair(found: ReadLine, second: usize, table: &mut [u16], p: usize)
+    requires { ⌜ WordsFit (pairOf (numbersOf found) second) p (now table) ⌝ }
+    ensures { λ _. ⌜ now (table .exit) ≡ sets (now (table .entry)) p (pairOf (numbersOf found) second) ⌝ }
 {
     table[p] = lines::entry(found, 1) as u16;
-    table[p + 1] = lines::entry(found, 2) as u16;
+    table[p + 1] = second as u16;
 }
 
 // The lines of the inputs have no words; the position behind them.
@@ -335,7 +335,7 @@ fn fill_latches(text: &[u8], at: usize, ending: Ending, counts: Counts, table: &
     let mut next = at;
     for i in 0..counts.latches {
         let found = lines::line(text, next, ending);
-        fill_pair(found, table, 2 * i);
+        fill_pair(found, lines::reset_word(found), table, 2 * i);
         next = found.next;
     }
     next
@@ -365,7 +365,7 @@ fn fill_gates(text: &[u8], at: usize, ending: Ending, counts: Counts, table: &mu
     let mut next = at;
     for i in 0..counts.gates {
         let found = lines::line(text, next, ending);
-        fill_pair(found, table, first + 2 * i);
+        fill_pair(found, lines::entry(found, 2), table, first + 2 * i);
         next = found.next;
     }
     next

@@ -31,7 +31,7 @@ rooms (k ∷ ks) = room k + rooms ks
 
 -- ---- lines that keep the rules stay within their room
 
-latch-room : (own next reset : ℕ) → next ≤ 8191 → reset ≤ 1 → length (lineText (own ∷ next ∷ shown reset)) ≤ length (decimal own) + 8
+latch-room : (own next reset : ℕ) → next ≤ 8191 → reset ≤ 1 → length (lineText (own ∷ next ∷ shown own reset)) ≤ length (decimal own) + 8
 unfolding endedLine shown
 latch-room own next zero p q = simp length-append (omega (arith, length-below 3 next (omega arith)))
 latch-room own next (suc r) p q = simp length-append (omega (arith, length-below 3 next (omega arith), length-below 0 (suc r) (omega arith)))

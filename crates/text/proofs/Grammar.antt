@@ -1,40 +1,30 @@
 -- Which texts are read, and as what: a text is accepted exactly when it describes the circuit, which 3, 10 and 11 do not
 -- refuse, by its first line and a line for each kind, and ends there or in a comment (document 01, Text). Assumes nothing.
-use mathlib.Core.Path.{_≡_, refl, sym, _∙_, ap, subst⁻¹}
+use mathlib.Core.Path.{_≡_, refl, _∙_, ap}
 use mathlib.Core.Bool.{true, false≢true}
 use mathlib.Core.List.{List, [], _∷_, _++_}
 use mathlib.Core.Logic.{_↔_}
 use Prim.Native.Nat.{ℕ, _≤_, _<_}
 use native.Mathlib.Omega.{arith}
-use borrow.Author.Tests.{eqb-true, leb-true, leb-false, eq-eqb}
-use lib.Dec.{leb}
-use lib.ListN.{length, getD, drop, length-append, List·getD-eq-default}
-use lib.Seq.{drop-at}
+use borrow.Author.Tests.{eqb-true, eq-eqb}
+use lib.ListN.{length, getD, drop, length-append}
 use Rattle.three.specs.Lists.{tabulate}
-use Rattle.three.proofs.Lists.{and-parts, by-test, tabulate-getD}
 use Rattle.circuit.specs.declared.Counts.{Counts}
 use Rattle.circuit.specs.Refusal.{refusal, Passed}
-use Rattle.circuit.specs.Table.{variables, top, tableLength, Kind, input, latch, literal, gate, kinds, width, rowTests, tableTests, circuitTests}
+use Rattle.circuit.specs.Table.{variables, top, tableLength, Kind, kinds, width, rowTests, tableTests, circuitTests}
 use Rattle.circuit.specs.RulesInCode.{Bounded}
 use Rattle.text.specs.Part.{got, ill}
 use Rattle.text.specs.Line.{newline, endedLine, strip, mostNumbers}
 use Rattle.text.specs.Outcome.{accepted, onward}
-use Rattle.text.specs.Text.{magic, headNumbers, fits, owns, words, lineTests, comment, ends, Lines, inFront, readLines, header, countsOf, headerTests, Content, readEnded, readText}
+use Rattle.text.specs.Text.{magic, headNumbers, words, lineTests, comment, ends, Lines, inFront, readLines, header, countsOf, headerTests, Content, readEnded, readText}
 use Rattle.text.proofs.Parts.{by-part}
 use Rattle.circuit.proofs.Refusals.{passed-append, passed-refusal}
 use Rattle.text.proofs.Outcomes.{append-passed, accepted-same}
 use Rattle.text.proofs.Lines.{front-strip, Short, line-split, split-line, strip-front, Proper, newline-proper}
 use Rattle.text.proofs.Steps.{end-fits, line-fits, LineRead, line-accepted, header-fits, header-accepted, line-numbered}
-use Rattle.text.proofs.Tables.{size, size-kinds, due, Owned, owned-kinds, Taken, taken, taken-refusal}
+use Rattle.text.proofs.Tables.{size, size-kinds, Owned, owned-kinds, Taken, taken, taken-refusal}
 use Rattle.circuit.proofs.Legality.{passed-bounded, bounded-passed}
-
--- A line's kind, its words in front of the words ws, and its numbers; a reset of 0 may be absent
-pub data Spelled (ws : List ℕ) : Kind → List ℕ → List ℕ → Type 0 where
-  inputLine : {own : ℕ} → Spelled ws (input own) ws (own ∷ [])
-  latchLine : {own next reset : ℕ} → Spelled ws (latch own) (next ∷ reset ∷ ws) (own ∷ next ∷ reset ∷ [])
-  latchPlain : {own next : ℕ} → Spelled ws (latch own) (next ∷ 0 ∷ ws) (own ∷ next ∷ [])
-  lampLine : {l : ℕ} → Spelled ws literal (l ∷ ws) (l ∷ [])
-  gateLine : {own left right : ℕ} → Spelled ws (gate own) (left ∷ right ∷ ws) (own ∷ left ∷ right ∷ [])
+use Rattle.text.proofs.Spelling.{Spelled, Seen, spelled, listed, seen, length-words, drop-words, rules-words}
 
 -- A text with one line for each kind, in order, and these words; then the text r
 pub data Says (ending r : List ℕ) : List Kind → List ℕ → List ℕ → Type 0 where
@@ -57,40 +47,7 @@ pub record Describes (ending t : List ℕ) (c : Content) : Type 0 where
   pub says : Says ending rest (kinds (c .counts)) (c .words) body
   pub closes : Closing ending rest
 
--- ---- a line's words at the front of the table
-
-pub length-words : (k : Kind) (ns : List ℕ) → length (words k ns) ≡ width k
-unfolding words width
-length-words (input own) ns = refl
-length-words (latch own) ns = refl
-length-words literal ns = refl
-length-words (gate own) ns = refl
-
-drop-words : (k : Kind) (ns ws : List ℕ) → drop (width k) (words k ns ++ ws) ≡ ws
-drop-words k ns ws = drop-at (words k ns) ws (width k) (length-words k ns)
-
-rules-words : (most : ℕ) (k : Kind) (ns ws : List ℕ) → rowTests most k (words k ns ++ ws) ≡ rowTests most k (words k ns)
-unfolding words rowTests
-rules-words most (input own) ns ws = refl
-rules-words most (latch own) ns ws = refl
-rules-words most literal ns ws = refl
-rules-words most (gate own) ns ws = refl
-
 -- ---- what describes a circuit is read
-
--- A spelled line as the reader takes it
-record Seen (most : ℕ) (k : Kind) (all ws ns : List ℕ) : Type 0 where
-  shape : (0 < length ns) × (length ns ≤ mostNumbers) × Short ns
-  passes : Passed (lineTests most k ns)
-  gives : words k ns ++ ws ≡ all
-
-seen : {most : ℕ} {k : Kind} {all ws ns : List ℕ} → most < 100000 → due k ≤ most → Spelled ws k all ns → Passed (rowTests most k all) → Seen most k all ws ns
-unfolding due lineTests fits owns words rowTests
-seen m d (inputLine {own = own}) p = record { shape = omega arith; passes = (refl, (eq-eqb own own refl, p)); gives = refl }
-seen m d (latchLine {own = own}) p = record { shape = omega (arith, leb-true); passes = (refl, (eq-eqb own own refl, p)); gives = refl }
-seen m d (latchPlain {own = own}) p = record { shape = omega (arith, leb-true); passes = (refl, (eq-eqb own own refl, p)); gives = refl }
-seen m d lampLine p = record { shape = omega (arith, leb-true); passes = (refl, (refl, p)); gives = refl }
-seen m d (gateLine {own = own}) p = record { shape = omega (arith, leb-true); passes = (refl, (eq-eqb own own refl, p)); gives = refl }
 
 says-read : {ending : List ℕ} → Proper ending → (most : ℕ) {ks : List Kind} {r ws t : List ℕ}
     → most < 100000 → Owned most ks → Says ending r ks ws t → Passed (tableTests most ks ws) → readLines ending (lineTests most) ks t ≡ accepted (record { words = ws; rest = r })
@@ -123,23 +80,6 @@ described-read {ending} {t} {c} proper d =
     header-fits ending t (d .short) e (passed-refusal _ (f .1)) ∙ rw (end-fits ending (says-read proper (top n) (omega arith) (owned-kinds n) (d .says) (k .rules)) (closing-ends ending (d .closes)))
 
 -- ---- what is read describes a circuit
-
--- a list is its items
-listed : (n : ℕ) (ns : List ℕ) → length ns ≡ n → ns ≡ tabulate n (λ i. getD ns i 0)
-listed n ns h = sym (rw (← h) (tabulate-getD ns 0))
-
-spelled : (k : Kind) (ns ws : List ℕ) → fits k (length ns) ≡ true → owns k ns ≡ true → Spelled ws k (words k ns ++ ws) ns
-unfolding fits owns words tabulate
-spelled (input own) ns ws f o = subst⁻¹ (Spelled ws (input own) _) (listed 1 ns (eqb-true (length ns) 1 f) ∙ rw (eqb-true (getD ns 0 0) own o)) inputLine
-spelled (latch own) ns ws f o =
-    let q = and-parts (leb 2 (length ns)) (leb (length ns) 3) f in
-    let h : getD ns 0 0 ≡ own = eqb-true (getD ns 0 0) own o in
-    by-test (leb (length ns) 2)
-    (λ s. let e : ns ≡ own ∷ getD ns 1 0 ∷ [] = listed 2 ns (omega (arith, leb-true)) ∙ rw h in
-    subst⁻¹ (Spelled ws (latch own) (words (latch own) ns ++ ws)) e (rw (List·getD-eq-default ns 0 (leb-true (length ns) 2 s)) latchPlain))
-    (λ s. subst⁻¹ (Spelled ws (latch own) _) (listed 3 ns (omega (arith, leb-true, leb-false)) ∙ rw h) latchLine)
-spelled literal ns ws f o = subst⁻¹ (Spelled ws literal _) (listed 1 ns (eqb-true (length ns) 1 f)) lampLine
-spelled (gate own) ns ws f o = subst⁻¹ (Spelled ws (gate own) _) (listed 3 ns (eqb-true (length ns) 3 f) ∙ rw (eqb-true (getD ns 0 0) own o)) gateLine
 
 -- a proper end
 ends-closing : (ending t : List ℕ) → ends ending t ≡ true → Closing ending t

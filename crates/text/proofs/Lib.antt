@@ -1,10 +1,12 @@
 pub mod Parts
 pub mod Outcomes
 pub mod Decimals
+pub mod Numerals
 pub mod Lines
 pub mod Tables
 pub mod Steps
 pub mod Numbers
+pub mod Spelling
 pub mod Grammar
 pub mod Bound
 pub mod Answers

@@ -6,14 +6,14 @@ use Prim.Native.Nat.{ℕ, zero, suc, _+_, _≤_, _<_}
 use native.Mathlib.Omega.{arith}
 use borrow.Author.Tests.{eqb-true, eq-eqb}
 use lib.Dec.{eqb}
-use lib.ListN.{length, getD, drop, length-append}
+use lib.ListN.{length, getD, drop}
 use Rattle.three.specs.Lists.{every}
 use Rattle.three.proofs.Lists.{and-parts, by-test}
 use Rattle.text.specs.Part.{Part, got, ill}
-use Rattle.text.specs.Decimal.{decimal, isDigit, readNumber}
-use Rattle.text.specs.Line.{newline, space, lineText, strip, prepend, splitLine, endedLine}
+use Rattle.text.specs.Decimal.{isDigit, readNumber}
+use Rattle.text.specs.Line.{newline, space, strip, prepend, splitLine, endedLine}
 use Rattle.text.proofs.Parts.{Holds, held, by-part}
-use Rattle.text.proofs.Decimals.{noDigit, decimal-read, Numeral, read-decimal}
+use Rattle.text.proofs.Numerals.{noDigit, decimal-read, Numeral, read-decimal}
 
 -- ---- bytes at the front
 
@@ -83,14 +83,6 @@ module _ (ending : List ℕ) (most : ℕ) (t : List ℕ) where
       pub number-other : strip space r ≡ ill → splitLine ending (suc most) t ≡ ill
       unfolding splitLine
       number-other g = rw (splitLine, e, f, g)
-
--- ---- how long a line is
-
--- a number and the byte behind it
-pub length-line : (n : ℕ) (ns : List ℕ) → length (lineText (n ∷ ns)) ≡ length (decimal n) + 1 + length (lineText ns)
-unfolding endedLine
-length-line n [] = simp length-append (omega arith)
-length-line n (m ∷ ns) = simp length-append (omega arith)
 
 -- ---- what is written is read back
 

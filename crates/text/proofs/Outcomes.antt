@@ -7,7 +7,7 @@ use native.Mathlib.Omega.{arith}
 use Rattle.three.proofs.Lists.{and-parts}
 use Rattle.circuit.specs.Refusal.{Test, refusal, allHold, Passed}
 use Rattle.circuit.proofs.Refusals.{Numbered, passes}
-use Rattle.text.specs.Outcome.{Outcome, accepted, refused, numberOf, after, tested, onward, further}
+use Rattle.text.specs.Outcome.{Outcome, accepted, refused, after, tested, onward, further}
 
 -- ---- tests as facts
 
@@ -34,11 +34,6 @@ tested-stops ts o e = ap (λ n. after n o) (sym e)
 pub tested-past : {A : Type 0} (ts : List Test) (o : Outcome A) → 0 ≡ refusal ts → tested ts o ≡ o
 unfolding tested after
 tested-past ts o e = ap (λ n. after n o) (sym e)
-
-pub number-onward : {A B : Type 0} (f : A → B) (o : Outcome A) → numberOf (onward f o) ≡ numberOf o
-unfolding numberOf onward
-number-onward f (accepted a) = refl
-number-onward f (refused n) = refl
 
 -- ---- what an accepted outcome came from
 

@@ -1,7 +1,7 @@
 -- What is written is read back: a written text describes its circuit, so a call reads what a call wrote. Assumes nothing.
 use mathlib.Core.Path.{_≡_, refl, ap}
 use mathlib.Core.List.{List, [], _∷_, _++_}
-use Prim.Native.Nat.{ℕ, zero, suc, _≤_}
+use Prim.Native.Nat.{ℕ, _≤_}
 use native.Mathlib.Omega.{arith}
 use lib.ListN.{length, take, drop, length-drop, length-append}
 use lib.Seq.{take-add, take-at, drop-at, length-take-le, take-append-seam}
@@ -11,10 +11,11 @@ use Rattle.circuit.specs.Refusal.{Test, refusal, leftBy as afterwards}
 use Rattle.circuit.specs.Table.{top, tableLength, Kind, input, latch, literal, gate, kinds, width, rowTests, tableTests, circuitTests}
 use Rattle.circuit.specs.RulesInCode.{Bounded}
 use Rattle.text.specs.Outcome.{accepted}
-use Rattle.text.specs.Text.{shown, numbers, writeBody, writeText, Content, readText}
+use Rattle.text.specs.Text.{numbers, writeBody, writeText, Content, readText}
 use Rattle.text.specs.Calls.{Reading, Writing}
 use Rattle.text.proofs.Tables.{size, size-kinds, Taken, taken, taken-refusal}
-use Rattle.text.proofs.Grammar.{Spelled, inputLine, latchLine, latchPlain, lampLine, gateLine, Says, stop, line, done, Describes, described, describes}
+use Rattle.text.proofs.Grammar.{Says, stop, line, done, Describes, described, describes}
+use Rattle.text.proofs.Spelling.{Spelled, shown-spelled, inputLine, lampLine, gateLine}
 use Rattle.text.proofs.Bound.{text-bound}
 use Rattle.text.proofs.Answers.{read-fits, reading-accepted, write-legal}
 use Rattle.text.specs.Line.{newline}
@@ -25,12 +26,11 @@ record Row (k : Kind) (ws rest : List ℕ) : Type 0 where
   rules : (most : ℕ) → rowTests most k (take (width k) ws ++ rest) ≡ rowTests most k ws
 
 row : (k : Kind) (ws rest : List ℕ) → width k ≤ length ws → Row k ws rest
-unfolding numbers shown width rowTests
+unfolding numbers width rowTests
 row (input own) ws rest w = record { spelled = inputLine; rules = λ most. refl }
 row (latch own) [] rest w = absurd (omega arith)
 row (latch own) (a ∷ []) rest w = absurd (omega arith)
-row (latch own) (a ∷ zero ∷ ws) rest w = record { spelled = latchPlain; rules = λ most. refl }
-row (latch own) (a ∷ suc r ∷ ws) rest w = record { spelled = latchLine; rules = λ most. refl }
+row (latch own) (a ∷ r ∷ ws) rest w = record { spelled = shown-spelled own a r rest; rules = λ most. refl }
 row literal [] rest w = absurd (omega arith)
 row literal (a ∷ ws) rest w = record { spelled = lampLine; rules = λ most. refl }
 row (gate own) [] rest w = absurd (omega arith)

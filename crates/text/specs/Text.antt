@@ -22,15 +22,15 @@ headNumbers c = variables c ∷ c .inputs ∷ c .latches ∷ c .lamps ∷ c .gat
 
 -- ---- writing
 
--- the reset is given only where it is not 0
-unfoldable pub shown : ℕ → List ℕ
-shown zero = []
-shown (suc r) = suc r ∷ []
+-- how the latch with the literal own shows its reset word: it is given only where it is not 0
+unfoldable pub shown : ℕ → ℕ → List ℕ
+shown own zero = []
+shown own (suc r) = suc r ∷ []
 
 -- the numbers of a line whose words open ws
 unfoldable pub numbers : Kind → List ℕ → List ℕ
 numbers (input own) ws = own ∷ []
-numbers (latch own) ws = own ∷ getD ws 0 0 ∷ shown (getD ws 1 0)
+numbers (latch own) ws = own ∷ getD ws 0 0 ∷ shown own (getD ws 1 0)
 numbers literal ws = getD ws 0 0 ∷ []
 numbers (gate own) ws = own ∷ getD ws 0 0 ∷ getD ws 1 0 ∷ []
 
@@ -59,10 +59,14 @@ owns (latch own) ns = eqb (getD ns 0 0) own
 owns literal ns = true
 owns (gate own) ns = eqb (getD ns 0 0) own
 
+-- the reset word of a latch whose line shows the literal own and the reset r
+unfoldable pub resetWord : ℕ → ℕ → ℕ
+resetWord own r = r
+
 -- the words that a line gives; an absent reset is 0
 unfoldable pub words : Kind → List ℕ → List ℕ
 words (input own) ns = []
-words (latch own) ns = getD ns 1 0 ∷ getD ns 2 0 ∷ []
+words (latch own) ns = getD ns 1 0 ∷ resetWord (getD ns 0 0) (getD ns 2 0) ∷ []
 words literal ns = getD ns 0 0 ∷ []
 words (gate own) ns = getD ns 1 0 ∷ getD ns 2 0 ∷ []
 

@@ -14,17 +14,9 @@ use Rattle.text.specs.Line.{newline, space, lineText, endedLine}
 use Rattle.text.specs.Text.{magic, headNumbers, shown, numbers}
 use Rattle.text.specs.KindsInCode.{coded}
 use Rattle.text.proofs.Coding.{width-two, coded-gate}
-use Rattle.writer.specs.WriterInCode.{andMore, lineNumbers, countNumbers, Shows}
+use Rattle.writer.specs.WriterInCode.{andMore, lineNumbers, countNumbers, LatchLine, Shows}
 
 -- ---- by how many numbers it has
-
-none-text : (m a b c : ℕ) → m ≡ 0 → lineText (andMore m a b c) ≡ decimal a ++ newline
-unfolding endedLine andMore
-none-text m a b c e = rw (e, andMore)
-
-one-text : (m a b c : ℕ) → m ≡ 1 → lineText (andMore m a b c) ≡ (decimal a ++ space) ++ (decimal b ++ newline)
-unfolding endedLine andMore
-one-text m a b c e = rw (e, andMore) (simp append-assoc)
 
 two-text : (m a b c : ℕ) → (m ≡ 0 → ⊥) → (m ≡ 1 → ⊥) → lineText (andMore m a b c) ≡ ((decimal a ++ space) ++ (decimal b ++ space)) ++ (decimal c ++ newline)
 unfolding endedLine andMore
@@ -45,14 +37,16 @@ word n behind = decimal n ++ (behind ∷ [])
 module _ (l : LineNumbers) where
   -- one number
   pub none-line : l .more ≡ 0 → lineText (lineNumbers l) ≡ word (l .first) 10
-  none-line e = none-text _ _ _ _ e
+  unfolding endedLine andMore
+  none-line e = rw (e, andMore)
 
   pub none-length : l .more ≡ 0 → length (lineText (lineNumbers l)) ≡ length (decimal (l .first)) + 1
   none-length e = rw (none-line e) (simp length-append)
 
   -- two
   pub one-line : l .more ≡ 1 → lineText (lineNumbers l) ≡ word (l .first) 32 ++ word (l .second) 10
-  one-line e = one-text _ _ _ _ e
+  unfolding endedLine andMore
+  one-line e = rw (e, andMore) (simp append-assoc)
 
   pub one-length : l .more ≡ 1 → length (lineText (lineNumbers l)) ≡ length (decimal (l .first)) + 1 + (length (decimal (l .second)) + 1)
   one-length e = rw (one-line e) (simp length-append)
@@ -70,10 +64,16 @@ module _ (l : LineNumbers) where
 
 -- ---- by its kind
 
-shown-some : (r : ℕ) → (r ≡ 0 → ⊥) → shown r ≡ r ∷ []
-unfolding shown
-shown-some zero f = absurd (f refl)
-shown-some (suc r) f = refl
+-- "absent meaning 0"
+pub latch-plain : {own next reset : ℕ} → own < 100000 → next < 100000 → reset ≡ 0 → LatchLine own next reset (record { more = 1; first = own; second = next; third = 0; words = 2 })
+unfolding andMore shown
+latch-plain o n e = record { same = rw e; wide = refl; small = omega arith }
+
+pub latch-given : {own next : ℕ} (reset : ℕ) → own < 100000 → next < 100000 → reset < 100000 → (reset ≡ 0 → ⊥)
+    → LatchLine own next reset (record { more = 2; first = own; second = next; third = reset; words = 2 })
+unfolding andMore shown
+latch-given zero o n r f = absurd (f refl)
+latch-given (suc reset) o n r f = record { same = refl; wide = refl; small = omega arith }
 
 module _ (own : ℕ) (words : List ℕ) (at : ℕ) where
   word-first : getD (drop at words) 0 0 ≡ getD words at 0
@@ -90,20 +90,14 @@ module _ (own : ℕ) (words : List ℕ) (at : ℕ) where
   unfolding andMore numbers coded width
   shows-lamp e h = rw e (record { same = rw word-first; wide = refl; small = omega arith })
 
-  -- "absent meaning 0"
-  pub shows-plain : {k : ℕ} → k ≡ 1 → getD words (at + 1) 0 ≡ 0 → own < 100000 → getD words at 0 < 100000
-      → Shows k own words at (record { more = 1; first = own; second = getD words at 0; third = 0; words = 2 })
-  unfolding andMore numbers shown coded width
-  shows-plain e z h i = rw e (record { same = rw (word-first, word-second, z); wide = refl; small = omega arith })
+  pub shows-latch : {k : ℕ} {line : LineNumbers} → k ≡ 1 → LatchLine own (getD words at 0) (getD words (at + 1) 0) line → Shows k own words at line
+  unfolding numbers coded width
+  shows-latch e l = rw e (record { same = l .same ∙ rw (word-first, word-second); wide = l .wide; small = l .small })
 
-  module _ (k : ℕ) (fits : own < 100000) (left : getD words at 0 < 100000) (right : getD words (at + 1) 0 < 100000) where
-    pub shows-latch : k ≡ 1 → (getD words (at + 1) 0 ≡ 0 → ⊥) → Shows k own words at (record { more = 2; first = own; second = getD words at 0; third = getD words (at + 1) 0; words = 2 })
-    unfolding andMore numbers coded width
-    shows-latch e f = rw e (record { same = rw (word-first, word-second, shown-some _ f); wide = refl; small = omega arith })
-
-    pub shows-gate : (k ≡ 0 → ⊥) → (k ≡ 1 → ⊥) → (k ≡ 2 → ⊥) → Shows k own words at (record { more = 2; first = own; second = getD words at 0; third = getD words (at + 1) 0; words = 2 })
-    unfolding andMore numbers
-    shows-gate f g h = record { same = rw (coded-gate k own f g h, word-first, word-second); wide = width-two k own f h; small = omega arith }
+  pub shows-gate : (k : ℕ) → own < 100000 → getD words at 0 < 100000 → getD words (at + 1) 0 < 100000 → (k ≡ 0 → ⊥) → (k ≡ 1 → ⊥) → (k ≡ 2 → ⊥)
+      → Shows k own words at (record { more = 2; first = own; second = getD words at 0; third = getD words (at + 1) 0; words = 2 })
+  unfolding andMore numbers
+  shows-gate k fits left right f g h = record { same = rw (coded-gate k own f g h, word-first, word-second); wide = width-two k own f h; small = omega arith }
 
 -- ---- the first line
 

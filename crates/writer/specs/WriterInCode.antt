@@ -8,7 +8,7 @@ use Rattle.circuit.specs.Table.{tableLength, several, width}
 use Rattle.circuit.specs.RulesInCode.{Bounded}
 use Rattle.writer.specs.declared.LineNumbers.{LineNumbers}
 use Rattle.text.specs.KindsInCode.{coded}
-use Rattle.text.specs.Text.{numbers, writeBody, writeText}
+use Rattle.text.specs.Text.{shown, numbers, writeBody, writeText}
 
 -- the first number, and so many more
 unfoldable pub andMore : ℕ → ℕ → ℕ → ℕ → List ℕ
@@ -29,6 +29,12 @@ pub record Small (line : LineNumbers) : Type 0 where
   pub first : line .first < 100000
   pub second : line .second < 100000
   pub third : line .third < 100000
+
+-- the line of a latch
+pub record LatchLine (own next reset : ℕ) (line : LineNumbers) : Type 0 where
+  pub same : lineNumbers line ≡ own ∷ next ∷ shown own reset
+  pub wide : line .words ≡ 2
+  pub small : Small line
 
 -- the line of a kind whose words stand at word `at`
 pub record Shows (kind own : ℕ) (words : List ℕ) (at : ℕ) (line : LineNumbers) : Type 0 where

@@ -17,7 +17,7 @@ ghost use Rattle.text.specs.Text.{magic, headNumbers, writeText};
 ghost use Rattle.text.specs.Calls.{Writing};
 ghost use Rattle.text.specs.KindsInCode.{coded};
 ghost use Rattle.putting.specs.PutInCode.{Put};
-ghost use Rattle.writer.specs.WriterInCode.{lineNumbers, countNumbers, Small, Shows, block, Lines, Writable};
+ghost use Rattle.writer.specs.WriterInCode.{lineNumbers, countNumbers, Small, LatchLine, Shows, block, Lines, Writable};
 
 // "`aag` and a space"
 fn put_magic(text: &mut [u8]) -> usize
@@ -55,7 +55,30 @@ fn put_line(text: &mut [u8], at: usize, line: LineNumbers) -> usize
     putting::put_word(text, third, line.third, 10)
 }
 
-// The line of a kind whose words stand at word `at`. "Written text gives the reset only where it is 1"
+// "Written text gives the reset only where it is 1"
+fn latch_line(own: usize, next: usize, reset: usize) -> LineNumbers
+    requires { ⌜ (own < 100000) × (next < 100000) × (reset < 100000) ⌝ }
+    ensures { λ r. ⌜ LatchLine own next reset r ⌝ }
+{
+    if reset == 0 {
+        return LineNumbers {
+            more: 1,
+            first: own,
+            second: next,
+            third: 0,
+            words: 2,
+        };
+    }
+    LineNumbers {
+        more: 2,
+        first: own,
+        second: next,
+        third: reset,
+        words: 2,
+    }
+}
+
+// The line of a kind whose words stand at word `at`.
 fn written_line(kind: u8, own: usize, table: &[u16], at: usize) -> LineNumbers
     requires { ⌜ (own < 100000) × (at + width (coded kind own) ≤ length (now table)) ⌝ }
     ensures { λ r. ⌜ Shows kind own (now (table .entry)) at r ⌝ }
@@ -81,15 +104,7 @@ fn written_line(kind: u8, own: usize, table: &[u16], at: usize) -> LineNumbers
     }
     let right = table[at + 1] as usize;
     if kind == LATCH_LINE {
-        if right == 0 {
-            return LineNumbers {
-                more: 1,
-                first: own,
-                second: left,
-                third: 0,
-                words: 2,
-            };
-        }
+        return latch_line(own, left, right);
     }
     LineNumbers {
         more: 2,

@@ -1,6 +1,6 @@
 -- `lines::ending_at` meets its contract: one byte decides. Assumes nothing.
 use native.Mathlib.Omega.{arith}
-use Rattle.lines.proofs.Finding.{ending-end, ending-here, ending-other}
+use Rattle.lines.proofs.Endings.{ending-end, ending-here, ending-other}
 use borrow.Author.Needs.{needs}
 use Rattle.lines.proofs.ending_at.Statement.{statement}
 use Rattle.lines.proofs.ending_at.Tie as tie

@@ -1,5 +1,5 @@
 -- `lines::number_in_line` meets its contract: what stands behind the number decides. Assumes nothing.
-use Rattle.lines.proofs.Finding.{number-within, in-line-none, in-line-last, in-line-end, in-line-more, in-line-other}
+use Rattle.lines.proofs.Endings.{number-within, in-line-none, in-line-last, in-line-end, in-line-more, in-line-other}
 use borrow.Author.Needs.{needs}
 use Rattle.lines.proofs.number_in_line.Statement.{statement}
 use Rattle.lines.proofs.number_in_line.Tie as tie

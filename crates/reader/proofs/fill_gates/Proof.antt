@@ -31,6 +31,9 @@ line-requires c κs =
     let turn = at .loop .inv (start .args .counts) refl (rw (at .before .gates-at .ensures) (start .pre)) in
     omega arith
 
+entry-requires : tie.Need-entry-requires Inv-loop μ-loop
+entry-requires c κs = omega arith
+
 mul-fill-pair : tie.Need-mul-fill-pair Inv-loop μ-loop
 mul-fill-pair c = omega arith
 
@@ -39,11 +42,12 @@ add-fill-pair c = omega arith
 
 fill-pair-requires : tie.Need-fill-pair-requires Inv-loop μ-loop
 fill-pair-requires c κs =
-    let line = c .before in
+    let word = c .before in
+    let line = word .before in
     let turn = line .before in
     let at = turn .before in
     let start = at .before .before .before .before in
-    filling-fits (at .loop .inv (start .args .counts) refl (rw (at .before .gates-at .ensures) (start .pre))) (turn .loop-test .taken) (line .line .ensures) (gate-words _ _)
+    filling-fits (at .loop .inv (start .args .counts) refl (rw (at .before .gates-at .ensures) (start .pre))) (turn .loop-test .taken) (line .line .ensures) (gate-words _ _ (word .entry .ensures))
 
 add-i : tie.Need-add-i Inv-loop μ-loop
 add-i c = omega arith
@@ -54,9 +58,10 @@ loop-less c = omega arith
 loop-again : tie.Need-loop-again Inv-loop μ-loop
 loop-again c =
     let pair = c .before .before in
-    let line = pair .before .before in
+    let word = pair .before .before in
+    let line = word .before in
     let turn = line .before in
-    λ k e f. filling-next (turn .before .loop .inv k e f) (omega arith) (line .line .ensures) (gate-words _ _) (pair .fill-pair .ensures) (omega arith)
+    λ k e f. filling-next (turn .before .loop .inv k e f) (omega arith) (line .line .ensures) (gate-words _ _ (word .entry .ensures)) (pair .fill-pair .ensures) (omega arith)
 
 same-length : tie.Need-same-length Inv-loop μ-loop
 same-length c =
@@ -80,6 +85,7 @@ fill-gates-spec =
     gates-at-requires
     loop-holds
     line-requires
+    entry-requires
     mul-fill-pair
     add-fill-pair
     fill-pair-requires

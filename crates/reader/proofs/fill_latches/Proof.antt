@@ -26,15 +26,19 @@ line-requires c κs =
     let turn = c .before .loop .inv (start .args .counts) refl (start .pre) in
     omega arith
 
+reset-word-requires : tie.Need-reset-word-requires Inv-loop μ-loop
+reset-word-requires c κs = omega arith
+
 mul-fill-pair : tie.Need-mul-fill-pair Inv-loop μ-loop
 mul-fill-pair c = omega arith
 
 fill-pair-requires : tie.Need-fill-pair-requires Inv-loop μ-loop
 fill-pair-requires c κs =
-    let line = c .before in
+    let word = c .before in
+    let line = word .before in
     let turn = line .before in
     let start = turn .before .before .before .before in
-    filling-fits (turn .before .loop .inv (start .args .counts) refl (start .pre)) (turn .loop-test .taken) (line .line .ensures) (latch-words _ _)
+    filling-fits (turn .before .loop .inv (start .args .counts) refl (start .pre)) (turn .loop-test .taken) (line .line .ensures) (latch-words _ _ (word .reset-word .ensures))
 
 add-i : tie.Need-add-i Inv-loop μ-loop
 add-i c = omega arith
@@ -45,9 +49,10 @@ loop-less c = omega arith
 loop-again : tie.Need-loop-again Inv-loop μ-loop
 loop-again c =
     let pair = c .before .before in
-    let line = pair .before .before in
+    let word = pair .before .before in
+    let line = word .before in
     let turn = line .before in
-    λ k e f. filling-next (turn .before .loop .inv k e f) (omega arith) (line .line .ensures) (latch-words _ _) (pair .fill-pair .ensures) (omega arith)
+    λ k e f. filling-next (turn .before .loop .inv k e f) (omega arith) (line .line .ensures) (latch-words _ _ (word .reset-word .ensures)) (pair .fill-pair .ensures) (omega arith)
 
 same-length : tie.Need-same-length Inv-loop μ-loop
 same-length c =
@@ -68,6 +73,7 @@ fill-latches-spec =
     μ-loop
     loop-holds
     line-requires
+    reset-word-requires
     mul-fill-pair
     fill-pair-requires
     add-i

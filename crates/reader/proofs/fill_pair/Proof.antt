@@ -18,11 +18,8 @@ mul-table c = search needs
 slice-write-table : tie.Need-slice-write-table
 slice-write-table c = search needs
 
-entry-requires-2 : tie.Need-entry-requires-2
-entry-requires-2 c κs = search needs
-
 cast-table-2 : tie.Need-cast-table-2
-cast-table-2 c = omega (arith, c .before .before .before .pre .small 1)
+cast-table-2 c = omega (arith, c .before .before .pre .small 1)
 
 add-table : tie.Need-add-table
 add-table c = search needs
@@ -37,7 +34,7 @@ same-length : tie.Need-same-length
 same-length c = search needs
 
 returns : tie.Need-returns
-returns c = rw (c .entry2 .ensures, c .before .entry .ensures, add-one)
+returns c = rw (c .entry .ensures, add-one)
 
 pub fill-pair-spec : {M : Type 1} → statement M
 fill-pair-spec =
@@ -47,7 +44,6 @@ fill-pair-spec =
     cast-table
     mul-table
     slice-write-table
-    entry-requires-2
     cast-table-2
     add-table
     mul-table-2

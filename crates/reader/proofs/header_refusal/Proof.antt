@@ -2,7 +2,7 @@
 use mathlib.Core.Path.{sym, _∙_}
 use native.Mathlib.Omega.{arith}
 use Rattle.circuit.proofs.Legality.{bounded}
-use Rattle.reader.proofs.Judging.{header-count, header-over, header-sum, header-passes}
+use Rattle.reader.proofs.Opening.{header-count, header-over, header-sum, header-passes}
 use borrow.Author.Needs.{needs}
 use Rattle.reader.proofs.header_refusal.Statement.{statement}
 use Rattle.reader.proofs.header_refusal.Tie as tie

@@ -23,14 +23,14 @@ entry-requires-2 c κs = search needs
 returns-4 : tie.Need-returns-4
 returns-4 c = latch-over _ _ _ (omega arith) (omega arith) (omega arith) (omega arith) (omega arith)
 
-entry-requires-3 : tie.Need-entry-requires-3
-entry-requires-3 c κs = search needs
+reset-word-requires : tie.Need-reset-word-requires
+reset-word-requires c κs = search needs
 
 returns-5 : tie.Need-returns-5
-returns-5 c = latch-reset _ _ _ (omega arith) (omega arith) (omega arith) (omega arith) (omega arith) (omega arith)
+returns-5 c = latch-reset _ _ _ (omega arith) (omega arith) (omega arith) (omega arith) (c .before .reset-word .ensures) (omega arith) (omega arith)
 
 returns-6 : tie.Need-returns-6
-returns-6 c = latch-passes _ _ _ (omega arith) (omega arith) (omega arith) (omega arith) (omega arith) (omega arith)
+returns-6 c = latch-passes _ _ _ (omega arith) (omega arith) (omega arith) (omega arith) (c .before .reset-word .ensures) (omega arith) (omega arith)
 
 pub latch-refusal-spec : {M : Type 1} → statement M
 latch-refusal-spec =
@@ -42,6 +42,6 @@ latch-refusal-spec =
     returns-3
     entry-requires-2
     returns-4
-    entry-requires-3
+    reset-word-requires
     returns-5
     returns-6)
