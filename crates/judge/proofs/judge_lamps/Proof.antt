@@ -5,7 +5,7 @@ use lib.ListN.{length}
 use Rattle.pass.proofs.Settling.{fresh}
 use Rattle.stored.specs.CubesInCode.{SwitchesX}
 use Rattle.stored.proofs.Reaching.{fresh-ready}
-use Rattle.judge.proofs.Judging.{Judged, first-cube, few-lamps, lamps-fit, lamp-place, judged-first, judged-record, judged-length, lamps-record, lamps-length, judged-next, judged-last}
+use Rattle.judge.proofs.Lamps.{Judged, first-cube, few-lamps, lamps-fit, lamp-place, judged-first, judged-record, judged-length, lamps-record, lamps-length, judged-next, judged-last}
 use native.Mathlib.Omega.{arith}
 use Rattle.judge.proofs.judge_lamps.Statement.{statement}
 use Rattle.judge.proofs.judge_lamps.Tie as tie
@@ -40,8 +40,6 @@ mul-lamps-at c =
     let start = at .before .before .before .before .before .before .before .before .before .before .before in
     let pre = start .pre in
     let entry = start .args .verdict .now in
-    let inv = at .loop .inv in
-    let first = at .before .before .before .lamps-at .ensures .1 in
     omega (arith, lamp-place _ _ _ _ _ (pre .0) entry (pre .1) _ (c .loop-test .taken), start .good)
 
 slice-aggregate-lamps-at : tie.Need-slice-aggregate-lamps-at Inv-loop μ-loop
@@ -54,7 +52,6 @@ lamps-at-requires-2 c κs =
     let pre = start .pre in
     let entry = start .args .verdict .now in
     let inv = at .loop .inv in
-    let first = at .before .before .before .lamps-at .ensures .1 in
     let h = c .before .before .loop-test .taken in
     (pre .0 .legal, lamp-place _ _ _ _ _ (pre .0) entry (pre .1) _ h, pre .0 .cube _ h, inv .0, omega (arith, few-lamps _ _ _ _ _ (pre .0) entry (pre .1), inv .2))
 

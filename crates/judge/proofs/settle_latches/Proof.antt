@@ -1,7 +1,7 @@
 -- `judge::settle_latches` meets its contract: the cubes from j on are merged one after the other. Assumes nothing.
 use Prim.Native.Nat.{_-_, _≤_}
 use Rattle.cubes.proofs.StoredCube.{cube-bytes}
-use Rattle.judge.proofs.Judging.{Settled, latch-place, cube-record, settled-first, settled-record, settled-length, settled-next, settled-last}
+use Rattle.judge.proofs.Latches.{Settled, latch-place, cube-record, settled-first, settled-record, settled-length, settled-next, settled-last}
 use native.Mathlib.Omega.{arith}
 use Rattle.judge.proofs.settle_latches.Statement.{statement}
 use Rattle.judge.proofs.settle_latches.Tie as tie
@@ -42,7 +42,6 @@ mul-agree c =
     let start = at .before .before .before .before .before .before .before in
     let pre = start .pre in
     let entry = start .args .settled .now in
-    let inv = at .loop .inv in
     omega (arith, latch-place _ _ _ _ _ (pre .0) entry (pre .1) _ (c .before .loop-test .taken), start .good)
 
 sub-agree : tie.Need-sub-agree Inv-loop μ-loop
@@ -51,7 +50,6 @@ sub-agree c =
     let start = at .before .before .before .before .before .before .before in
     let pre = start .pre in
     let entry = start .args .settled .now in
-    let inv = at .loop .inv in
     omega (arith, latch-place _ _ _ _ _ (pre .0) entry (pre .1) _ (c .before .loop-test .taken))
 
 part-agree-start : tie.Need-part-agree-start Inv-loop μ-loop
@@ -60,7 +58,6 @@ part-agree-start c =
     let start = at .before .before .before .before .before .before .before in
     let pre = start .pre in
     let entry = start .args .settled .now in
-    let inv = at .loop .inv in
     omega (arith, latch-place _ _ _ _ _ (pre .0) entry (pre .1) _ (c .before .loop-test .taken))
 
 part-agree-end : tie.Need-part-agree-end Inv-loop μ-loop
@@ -69,7 +66,6 @@ part-agree-end c =
     let start = at .before .before .before .before .before .before .before in
     let pre = start .pre in
     let entry = start .args .settled .now in
-    let inv = at .loop .inv in
     omega (arith, latch-place _ _ _ _ _ (pre .0) entry (pre .1) _ (c .before .loop-test .taken))
 
 agree-requires : tie.Need-agree-requires Inv-loop μ-loop
