@@ -1,5 +1,5 @@
 -- Held latches as pairs of bits: what the code does to bytes is what the run does to fields. Assumes nothing.
-use mathlib.Core.Path.{_≡_, refl, sym, ap, _∙_}
+use mathlib.Core.Path.{_≡_, refl, _∙_}
 use mathlib.Core.Bool.{Bool, true, false, not, _||_}
 use mathlib.Core.List.{List, [], _∷_, zipWith}
 use Prim.Native.Nat.{ℕ, zero, suc, _+_, _*_, _-_, _/_, _%_, _<_}
@@ -9,12 +9,12 @@ use lib.Bits.{bitAnd, bitOr, bitXor, and-block, or-block, xor-block, xor-lt}
 use lib.Dec.{eqb}
 use lib.ListN.{length, getD}
 use Rattle.three.specs.Lists.{tabulate, adjust}
-use Rattle.three.specs.Value.{Three, unknown, low, high, code}
+use Rattle.three.specs.Value.{Three, unknown, code}
 use Rattle.three.specs.Cube.{Cube, alike, blank}
 use Rattle.three.specs.Record.{byteOf, byteAt}
 use Rattle.three.proofs.Pack.{code-small}
 use Rattle.three.proofs.Table.{same-answers}
-use Rattle.three.proofs.Merge.{of-two}
+use Rattle.three.proofs.Merge.{of-one, of-two}
 use Rattle.cubes.specs.Run.{hold, differing}
 use Rattle.cubes.specs.HeldInCode.{heldPair, heldByte, keptByte, differingByte}
 
@@ -54,12 +54,8 @@ getD-hold (h ∷ hs) (x ∷ v) (suc i) = getD-hold hs v i
 
 kept-pair : (v : Three) (h : Bool) → bitAnd (code v) (3 - heldPair h) ≡ code (blank v h)
 unfolding code heldPair blank
-kept-pair unknown true = refl
-kept-pair unknown false = refl
-kept-pair low true = refl
-kept-pair low false = refl
-kept-pair high true = refl
-kept-pair high false = refl
+kept-pair v true = eqb-true _ _ (of-one (λ v. eqb (bitAnd (code v) (3 - heldPair true)) (code (blank v true))) refl v)
+kept-pair v false = eqb-true _ _ (of-one (λ v. eqb (bitAnd (code v) (3 - heldPair false)) (code (blank v false))) refl v)
 
 kept-four : (a b c d : Three) (p q r s : Bool)
     → keptByte (byteOf a b c d) (64 * heldPair p + 16 * heldPair q + 4 * heldPair r + heldPair s) ≡ byteOf (blank a p) (blank b q) (blank c r) (blank d s)
