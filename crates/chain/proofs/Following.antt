@@ -22,9 +22,10 @@ use Rattle.cubes.specs.Buffer.{cubeBytes, longestCube, packCube, IsCube, cubeOf
 use Rattle.cubes.proofs.StoredCube.{some-bytes as cube-some, few-bytes as cube-few}
 use Rattle.cubes.proofs.Steps.{run-stays}
 
-module _ (c : Counts) (words : List ℕ) (w len room : ℕ) (buffer : List ℕ) (f : Followable c words len room buffer) where
+module _ (c : Counts) (words : List ℕ) (w len room : ℕ) (buffer : List ℕ) where
   -- the loop's invariant
   pub record Turn (count : ℕ) (held cubes values b : List ℕ) : Type 0 where
+    pub given : Followable c words len room buffer
     pub going : Going c words w buffer count held cubes values
     pub within : count ≤ room
     pub long : length b ≡ longestCube
@@ -32,6 +33,9 @@ module _ (c : Counts) (words : List ℕ) (w len room : ℕ) (buffer : List ℕ) 
   module _ {count : ℕ} {held cubes values b : List ℕ} (t : Turn count held cubes values b) where
     abbrev g : Going c words w buffer count held cubes values
     g = t .going
+
+    abbrev f : Followable c words len room buffer
+    f = t .given
 
     pub few-bytes : len ≤ longestCube
     few-bytes = omega (arith, f .size, cube-few (f .legal .bounded .latches))
@@ -110,14 +114,16 @@ module _ (c : Counts) (words : List ℕ) (w len room : ℕ) (buffer : List ℕ) 
         pub turn-next : (after : Progress) (cubes′ values′ : List ℕ) → Advanced (due w count) len (record { count = count; held = held }) cubes b′ after cubes′ → SwitchesX c values′ → length b′ ≡ longestCube
             → Turn (after .count) (after .held) cubes′ values′ b′
         turn-next after cubes′ values′ a ready long′ = record {
+          given = f;
           going = going-next c words w buffer g b′ r (due w count) refl (open-yet h) after cubes′ (rw (f .size) at a) values′ ready (rw (f .size) at next-fits);
           within = omega (arith, a .counts, t .within);
           long = long′;
         }
 
-  pub turn-first : (values b : List ℕ) → SwitchesX c values → length b ≡ longestCube → Turn 1 (replicate longestCube 0) buffer values b
+  pub turn-first : Followable c words len room buffer → (values b : List ℕ) → SwitchesX c values → length b ≡ longestCube → Turn 1 (replicate longestCube 0) buffer values b
   unfolding roomIn
-  turn-first values b r l = record {
+  turn-first f values b r l = record {
+    given = f;
     going = going-first c words w buffer buffer values (f .legal .bounded .latches) (f .one) (f .begun) r;
     within = rw (f .has-room) (le-div-iff-mul-le {k = cubeBytes (c .latches)} (cube-some (c .latches)) .1 (omega (arith, one-mul (cubeBytes (c .latches)), f .one)));
     long = l;

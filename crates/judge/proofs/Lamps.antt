@@ -36,16 +36,7 @@ module _ (c : Counts) (words cubes : List ℕ) where
   abbrev pub Judged : List ℕ → List ℕ → ℕ → Type 0
   Judged begun e k = Merged (c .lamps) lampsOf lamps-sized 0 begun e k
 
-module _ (c : Counts) (words : List ℕ) (len n : ℕ) (cubes : List ℕ) (j : Judgeable c words len n cubes) (entry : List ℕ) (room : bytesFor (c .lamps) ≤ length entry) where
-  abbrev circuit : Circuit
-  circuit = circuitOf c words
-
-  abbrev lampsAt : ℕ → Cube
-  lampsAt = lampsOf c words cubes
-
-  lamps-long : (k : ℕ) → length (pack (lampsAt k)) ≡ bytesFor (c .lamps)
-  lamps-long k = rw (length-pack, lamps-sized c words cubes k)
-
+module _ (c : Counts) (words : List ℕ) (len n : ℕ) (cubes : List ℕ) (j : Judgeable c words len n cubes) where
   pub first-cube : IsCube (c .latches) cubes
   first-cube = rw zero-mul at (j .cube 0 (j .some))
 
@@ -58,7 +49,16 @@ module _ (c : Counts) (words : List ℕ) (len n : ℕ) (cubes : List ℕ) (j : J
   pub lamp-place : (k : ℕ) → k < n → k * len ≤ length cubes
   lamp-place k h = omega (arith, place-below n len k (length cubes) h (j .fits))
 
-  module _ (begun : List ℕ) (first : begun ≡ over (pack (lampsIn circuit (cubeOf (c .latches) cubes))) entry) where
+  abbrev circuit : Circuit
+  circuit = circuitOf c words
+
+  abbrev lampsAt : ℕ → Cube
+  lampsAt = lampsOf c words cubes
+
+  lamps-long : (k : ℕ) → length (pack (lampsAt k)) ≡ bytesFor (c .lamps)
+  lamps-long k = rw (length-pack, lamps-sized c words cubes k)
+
+  module _ (entry : List ℕ) (room : bytesFor (c .lamps) ≤ length entry) (begun : List ℕ) (first : begun ≡ over (pack (lampsIn circuit (cubeOf (c .latches) cubes))) entry) where
     begun-with : begun ≡ over (pack (lampsAt 0)) entry
     begun-with = first ∙ ap (λ (v : Cube). over (pack (lampsIn circuit v)) entry) (ap (λ (m : ℕ). cubeOf (c .latches) (drop m cubes)) (sym (zero-mul len)) ∙ cube-at _ (j .size) cubes 0)
 

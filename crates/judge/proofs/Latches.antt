@@ -31,7 +31,7 @@ module _ (latches : ℕ) (cubes : List ℕ) where
   abbrev pub Settled : ℕ → List ℕ → List ℕ → ℕ → Type 0
   Settled j begun e k = Merged latches (cubeIn latches cubes) (cube-in-sized latches cubes) j begun e k
 
-module _ (latches len n j : ℕ) (cubes : List ℕ) (s : Settleable latches len n j cubes) (entry : List ℕ) (room : bytesFor latches ≤ length entry) where
+module _ (latches len n j : ℕ) (cubes : List ℕ) (s : Settleable latches len n j cubes) where
   pub latch-place : (k : ℕ) → k < n → k * len + len ≤ length cubes
   latch-place k h = place-below n len k (length cubes) h (s .fits)
 
@@ -41,7 +41,7 @@ module _ (latches len n j : ℕ) (cubes : List ℕ) (s : Settleable latches len 
   cube-long : (k : ℕ) → length (pack (cubeIn latches cubes k)) ≡ bytesFor latches
   cube-long k = rw (length-pack, cube-in-sized latches cubes k)
 
-  module _ (small : (i : ℕ) → getD cubes i 0 < 256) (begun : List ℕ) (copied : begun ≡ paste entry 0 (drop (j * len) cubes) len) where
+  module _ (entry : List ℕ) (room : bytesFor latches ≤ length entry) (small : (i : ℕ) → getD cubes i 0 < 256) (begun : List ℕ) (copied : begun ≡ paste entry 0 (drop (j * len) cubes) len) where
     latches-begun : begun ≡ over (pack (cubeIn latches cubes j)) entry
     unfolding over
     latches-begun =
