@@ -1,36 +1,31 @@
 -- The loop that follows the chain: what each call asks and gives, and the two ways out. Assumes nothing.
-use mathlib.Core.Path.{_≡_, refl, sym, ap, _∙_}
+use mathlib.Core.Path.{_≡_, refl, ap, _∙_}
 use mathlib.Core.Bool.{true, false}
 use mathlib.Core.List.{List}
-use Prim.Native.Nat.{ℕ, suc, _+_, _*_, _-_, _/_, _<_, _≤_}
+use Prim.Native.Nat.{ℕ, suc, _+_, _*_, _-_, _<_, _≤_}
 use native.Mathlib.Nat.{suc-mul, one-mul, mul-comm, mul-le-mul-right, add-sub-of-le, div-mul-le-self, le-div-iff-mul-le}
 use native.Mathlib.Omega.{arith}
 use lib.ListN.{length, drop, replicate}
 use lib.Seq.{paste, length-paste}
-use Rattle.three.specs.Lists.{over}
 use Rattle.circuit.specs.declared.Counts.{Counts}
 use Rattle.circuit.specs.Table.{circuitOf}
-use Rattle.circuit.specs.RulesInCode.{Legal}
 use Rattle.chain.specs.declared.Progress.{Progress}
-use Rattle.chain.specs.declared.Chain.{Chain}
-use Rattle.cubes.specs.Run.{due, nextCube, cubeAt, stops, full, run}
-use Rattle.stored.specs.CubesInCode.{startFields, keptBytes, coversFrom, first, SwitchesX}
+use Rattle.cubes.specs.Run.{due, nextCube, stops, full, run}
+use Rattle.stored.specs.CubesInCode.{keptBytes, coversFrom, first, SwitchesX}
 use Rattle.cubes.specs.Call.{roomIn, storedCubes, backTo}
 use Rattle.chain.specs.ChainInCode.{Advanced, Chained, Followable}
 use Rattle.cubes.specs.OutcomesInCode.{hasStopped}
-use Rattle.stored.proofs.Keeping.{length-kept, behind-one}
-use Rattle.cubes.proofs.Merging.{over-over, length-over}
-use Rattle.stored.proofs.Starting.{start-sized}
-use Rattle.cubes.proofs.Storing.{records-sized}
-use Rattle.cubes.proofs.Buffered.{cubes-sized}
-use Rattle.chain.proofs.Chaining.{Going, Reached, same-length, all-fits, last-at, last-record, reached-b, closes-at, goes-on, going-first, going-next}
-use Rattle.cubes.specs.Buffer.{cubeBytes, longestCube, packCube, IsCube, cubeOf, packCubes}
-use Rattle.cubes.proofs.StoredCube.{some-bytes as cube-some, few-bytes as cube-few, cube-long}
+use Rattle.stored.proofs.Keeping.{length-kept}
+use Rattle.chain.proofs.Chaining.{Going, Reached, same-length, all-fits, last-at, last-record, reached-b, closes-at, goes-on, going-first}
+use Rattle.chain.proofs.Advancing.{going-next}
+use Rattle.cubes.specs.Buffer.{cubeBytes, longestCube, packCube, IsCube, cubeOf}
+use Rattle.cubes.proofs.StoredCube.{some-bytes as cube-some, few-bytes as cube-few}
 use Rattle.cubes.proofs.Steps.{run-stays}
 
-module _ (c : Counts) (words : List ℕ) (w len room : ℕ) (buffer : List ℕ) (f : Followable c words len room buffer) where
+module _ (c : Counts) (words : List ℕ) (w len room : ℕ) (buffer : List ℕ) where
   -- the loop's invariant
   pub record Turn (count : ℕ) (held cubes values b : List ℕ) : Type 0 where
+    pub given : Followable c words len room buffer
     pub going : Going c words w buffer count held cubes values
     pub within : count ≤ room
     pub long : length b ≡ longestCube
@@ -38,6 +33,9 @@ module _ (c : Counts) (words : List ℕ) (w len room : ℕ) (buffer : List ℕ) 
   module _ {count : ℕ} {held cubes values b : List ℕ} (t : Turn count held cubes values b) where
     abbrev g : Going c words w buffer count held cubes values
     g = t .going
+
+    abbrev f : Followable c words len room buffer
+    f = t .given
 
     pub few-bytes : len ≤ longestCube
     few-bytes = omega (arith, f .size, cube-few (f .legal .bounded .latches))
@@ -116,51 +114,17 @@ module _ (c : Counts) (words : List ℕ) (w len room : ℕ) (buffer : List ℕ) 
         pub turn-next : (after : Progress) (cubes′ values′ : List ℕ) → Advanced (due w count) len (record { count = count; held = held }) cubes b′ after cubes′ → SwitchesX c values′ → length b′ ≡ longestCube
             → Turn (after .count) (after .held) cubes′ values′ b′
         turn-next after cubes′ values′ a ready long′ = record {
+          given = f;
           going = going-next c words w buffer g b′ r (due w count) refl (open-yet h) after cubes′ (rw (f .size) at a) values′ ready (rw (f .size) at next-fits);
           within = omega (arith, a .counts, t .within);
           long = long′;
         }
 
-  pub turn-first : (values b : List ℕ) → SwitchesX c values → length b ≡ longestCube → Turn 1 (replicate longestCube 0) buffer values b
+  pub turn-first : Followable c words len room buffer → (values b : List ℕ) → SwitchesX c values → length b ≡ longestCube → Turn 1 (replicate longestCube 0) buffer values b
   unfolding roomIn
-  turn-first values b r l = record {
+  turn-first f values b r l = record {
+    given = f;
     going = going-first c words w buffer buffer values (f .legal .bounded .latches) (f .one) (f .begun) r;
     within = rw (f .has-room) (le-div-iff-mul-le {k = cubeBytes (c .latches)} (cube-some (c .latches)) .1 (omega (arith, one-mul (cubeBytes (c .latches)), f .one)));
     long = l;
-  }
-
--- ---- cube 0 is stored first
-
-module _ (c : Counts) (words : List ℕ) (w : ℕ) (buffer cubes : List ℕ) (one : cubeBytes (c .latches) ≤ length buffer) (begun : cubes ≡ over (packCube (startFields words (c .latches))) buffer) where
-  start-long : length (packCube (startFields words (c .latches))) ≡ cubeBytes (c .latches)
-  start-long = cube-long _ (start-sized words (c .latches))
-
-  start-length : length cubes ≡ length buffer
-  start-length = ap length begun ∙ length-over _ buffer (omega (arith, start-long))
-
-  same-room : roomIn c cubes ≡ roomIn c buffer
-  unfolding roomIn
-  same-room = ap (λ (n : ℕ). n / cubeBytes (c .latches)) start-length
-
-  pub start-followable : Legal c words → length buffer ≤ 65536 → (len room : ℕ) → len ≡ cubeBytes (c .latches) → room ≡ length cubes / len → Followable c words len room cubes
-  unfolding roomIn
-  start-followable legal small len room el er = record {
-    legal = legal;
-    size = el;
-    has-room = er ∙ ap (λ (n : ℕ). length cubes / n) el;
-    one = omega (arith, start-length);
-    small = omega (arith, start-length);
-    begun = begun ∙ sym (ap (over (packCube (startFields words (c .latches)))) begun ∙ over-over _ _ buffer (omega arith));
-  }
-
-  pub chained-from : (r : Chain) (cubes′ : List ℕ) → Chained c words w cubes r cubes′ → Chained c words w buffer r cubes′
-  chained-from r cubes′ h = record {
-    closes = rw same-room at (h .closes);
-    counts = rw same-room at (h .counts);
-    goes-back = rw same-room at (h .goes-back);
-    some = h .some;
-    fills =
-        h .fills ∙ ap (over (packCubes (cubeAt (circuitOf c words) w) (r .count))) begun
-        ∙ over-over (packCube (startFields words (c .latches))) _ buffer
-        (omega (arith, start-long, records-sized (c .latches) (cubeAt (circuitOf c words) w) (cubes-sized c words w) (r .count), behind-one (cubeBytes (c .latches)) (h .some)));
   }

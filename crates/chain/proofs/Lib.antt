@@ -1,3 +1,5 @@
 pub mod Keeping
 pub mod Chaining
+pub mod Advancing
 pub mod Following
+pub mod Beginning

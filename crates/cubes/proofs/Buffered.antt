@@ -4,7 +4,7 @@ use mathlib.Core.Bool.{true, false, true≢false, false≢true}
 use mathlib.Core.List.{List}
 use Prim.Native.Nat.{ℕ, zero, suc, _+_, _-_, _<_, _≤_}
 use native.Mathlib.Omega.{arith}
-use lib.ListN.{length}
+use lib.ListN.{length, length-replicate}
 use Rattle.three.specs.Lists.{over}
 use Rattle.three.specs.Cube.{Cube, merged}
 use Rattle.circuit.specs.declared.Counts.{Counts}
@@ -17,7 +17,7 @@ use Rattle.cubes.specs.OutcomesInCode.{hasStopped}
 use Rattle.cubes.proofs.Steps.{found, Ran, stays, closes, ran}
 use Rattle.cubes.proofs.Storing.{stored-cube}
 use Rattle.three.proofs.Lists.{length-tabulate}
-use Rattle.cubes.proofs.Wider.{cube-sized}
+use Rattle.cubes.proofs.Wider.{cube-sized, mergeFrom-sized}
 use Rattle.circuit.proofs.Pass.{readings-sized, next-sized}
 use Rattle.three.specs.Value.{ternary}
 
@@ -98,6 +98,14 @@ module _ (c : Counts) (words : List ℕ) (w : ℕ) where
 
   pub cubes-sized : (k : ℕ) → length (cubeAt circuit w k) ≡ c .latches
   cubes-sized k = cube-sized circuit w k ∙ latches-counted c words
+
+  pub verdict-sized : (n : ℕ) → length (verdict circuit (cubeAt circuit w) n) ≡ c .lamps
+  unfolding verdict
+  verdict-sized n = mergeFrom-sized _ _ (c .lamps) (λ k. lamps-counted c words _) 0 (length-replicate (length (circuit .lamps)) _ ∙ literals-counted c words) n
+
+  pub settled-sized : (n j : ℕ) → length (settled circuit (cubeAt circuit w) n j) ≡ c .latches
+  unfolding settled
+  settled-sized n j = mergeFrom-sized _ _ (c .latches) cubes-sized j (length-replicate (length (circuit .latches)) _ ∙ latches-counted c words) (n - j)
 
   module _ (buffer : List ℕ) (n : ℕ) (cubes : List ℕ) (fills : cubes ≡ over (packCubes (cubeAt circuit w) n) buffer) where
     pub cube-in : (k : ℕ) → k < n → cubeIn (c .latches) cubes k ≡ cubeAt circuit w k

@@ -1,5 +1,5 @@
 -- Held latches as pairs of bits: what the code does to bytes is what the run does to fields. Assumes nothing.
-use mathlib.Core.Path.{_≡_, refl, sym, ap, _∙_}
+use mathlib.Core.Path.{_≡_, refl, _∙_}
 use mathlib.Core.Bool.{Bool, true, false, not, _||_}
 use mathlib.Core.List.{List, [], _∷_, zipWith}
 use Prim.Native.Nat.{ℕ, zero, suc, _+_, _*_, _-_, _/_, _%_, _<_}
@@ -9,12 +9,12 @@ use lib.Bits.{bitAnd, bitOr, bitXor, and-block, or-block, xor-block, xor-lt}
 use lib.Dec.{eqb}
 use lib.ListN.{length, getD}
 use Rattle.three.specs.Lists.{tabulate, adjust}
-use Rattle.three.specs.Value.{Three, unknown, low, high, code}
+use Rattle.three.specs.Value.{Three, unknown, code}
 use Rattle.three.specs.Cube.{Cube, alike, blank}
 use Rattle.three.specs.Record.{byteOf, byteAt}
 use Rattle.three.proofs.Bytes.{code-small}
 use Rattle.three.proofs.Table.{same-answers}
-use Rattle.three.proofs.Fields.{of-two}
+use Rattle.three.proofs.Fields.{of-two, of-one}
 use Rattle.cubes.specs.Run.{hold, differing}
 use Rattle.cubes.specs.HeldInCode.{heldPair, heldByte, keptByte, differingByte}
 
@@ -54,22 +54,15 @@ getD-hold (h ∷ hs) (x ∷ v) (suc i) = getD-hold hs v i
 
 kept-pair : (v : Three) (h : Bool) → bitAnd (code v) (3 - heldPair h) ≡ code (blank v h)
 unfolding code heldPair blank
-kept-pair unknown true = refl
-kept-pair unknown false = refl
-kept-pair low true = refl
-kept-pair low false = refl
-kept-pair high true = refl
-kept-pair high false = refl
+kept-pair v true = eqb-true _ _ (of-one (λ v. eqb (bitAnd (code v) (3 - heldPair true)) (code (blank v true))) refl v)
+kept-pair v false = eqb-true _ _ (of-one (λ v. eqb (bitAnd (code v) (3 - heldPair false)) (code (blank v false))) refl v)
 
 kept-four : (a b c d : Three) (p q r s : Bool)
     → keptByte (byteOf a b c d) (64 * heldPair p + 16 * heldPair q + 4 * heldPair r + heldPair s) ≡ byteOf (blank a p) (blank b q) (blank c r) (blank d s)
 unfolding keptByte
 kept-four a b c d p q r s =
-    let lp = pair-small p in
-    let lq = pair-small q in
-    let lr = pair-small r in
-    let ls = pair-small s in
-    let rest : 255 - (64 * heldPair p + 16 * heldPair q + 4 * heldPair r + heldPair s) ≡ four (3 - heldPair p) (3 - heldPair q) (3 - heldPair r) (3 - heldPair s) = omega arith in
+    let rest : 255 - (64 * heldPair p + 16 * heldPair q + 4 * heldPair r + heldPair s) ≡ four (3 - heldPair p) (3 - heldPair q) (3 - heldPair r) (3 - heldPair s) =
+    omega (arith, pair-small p, pair-small q, pair-small r, pair-small s) in
     rw (byte-four a b c d, rest, byte-four)
     (by-pairs bitAnd (and-block 2) _ _ _ _ _ _ _ _ (code-below b) (code-below c) (code-below d) (omega arith) (omega arith) (omega arith)
     ∙ rw (kept-pair a p, kept-pair b q, kept-pair c r, kept-pair d s))
@@ -104,16 +97,12 @@ differing-four a b c d e f g h =
     let y = bitXor (code b) (code f) in
     let z = bitXor (code c) (code g) in
     let w = bitXor (code d) (code h) in
-    let lx = xor-pair a e in
-    let ly = xor-pair b f in
-    let lz = xor-pair c g in
-    let lw = xor-pair d h in
     let whole : bitXor (byteOf a b c d) (byteOf e f g h) ≡ four x y z w = rw (byte-four a b c d, byte-four e f g h) (by-pairs bitXor (xor-block 2) _ _ _ _ _ _ _ _ (code-below b) (code-below c) (code-below d) (code-below f) (code-below g) (code-below h)) in
-    let p : four x y z w / 64 % 4 ≡ x = omega arith in
-    let q : four x y z w / 16 % 4 ≡ y = omega arith in
-    let r : four x y z w / 4 % 4 ≡ z = omega arith in
-    let s : four x y z w % 4 ≡ w = omega arith in
-    rw whole (spread-byte (four x y z w) (omega arith) ∙ rw (p, q, r, s, spread-pair a e, spread-pair b f, spread-pair c g, spread-pair d h))
+    let p : four x y z w / 64 % 4 ≡ x = omega (arith, xor-pair b f, xor-pair c g, xor-pair d h, xor-pair a e) in
+    let q : four x y z w / 16 % 4 ≡ y = omega (arith, xor-pair b f, xor-pair c g, xor-pair d h, xor-pair a e) in
+    let r : four x y z w / 4 % 4 ≡ z = omega (arith, xor-pair b f, xor-pair c g, xor-pair d h, xor-pair a e) in
+    let s : four x y z w % 4 ≡ w = omega (arith, xor-pair b f, xor-pair c g, xor-pair d h, xor-pair a e) in
+    rw whole (spread-byte (four x y z w) (omega (arith, xor-pair b f, xor-pair c g, xor-pair d h, xor-pair a e)) ∙ rw (p, q, r, s, spread-pair a e, spread-pair b f, spread-pair c g, spread-pair d h))
 
 held-or : (h d : Bool) → bitOr (heldPair h) (heldPair d) ≡ heldPair (h || d)
 unfolding heldPair
@@ -122,28 +111,16 @@ held-or true false = refl
 held-or false true = refl
 held-or false false = refl
 
-getD-differing : (a b : Cube) → length a ≡ length b → (i : ℕ) → getD (differing a b) i false ≡ not (alike (getD a i unknown) (getD b i unknown))
-unfolding differing zipWith alike code
-getD-differing [] [] e i = refl
-getD-differing [] (y ∷ b) e i = absurd (omega arith)
-getD-differing (x ∷ a) [] e i = absurd (omega arith)
-getD-differing (x ∷ a) (y ∷ b) e zero = refl
-getD-differing (x ∷ a) (y ∷ b) e (suc i) = getD-differing a b (omega arith) i
-
-getD-held : (held more : List Bool) → length held ≡ length more → (i : ℕ) → getD (adjust _||_ held more) i false ≡ (getD held i false || getD more i false)
-unfolding adjust
-getD-held [] [] e i = refl
-getD-held [] (d ∷ ds) e i = absurd (omega arith)
-getD-held (h ∷ hs) [] e i = absurd (omega arith)
-getD-held (h ∷ hs) (d ∷ ds) e zero = refl
-getD-held (h ∷ hs) (d ∷ ds) e (suc i) = getD-held hs ds (omega arith) i
-
-length-differing : (a b : Cube) → length a ≡ length b → length (differing a b) ≡ length a
-unfolding differing zipWith
-length-differing [] [] e = refl
-length-differing [] (y ∷ b) e = absurd (omega arith)
-length-differing (x ∷ a) [] e = absurd (omega arith)
-length-differing (x ∷ a) (y ∷ b) e = ap suc (length-differing a b (omega arith))
+getD-widened : (held : List Bool) (a b : Cube) → length held ≡ length a → length a ≡ length b → (i : ℕ)
+    → getD (adjust _||_ held (differing a b)) i false ≡ (getD held i false || not (alike (getD a i unknown) (getD b i unknown)))
+unfolding adjust differing zipWith alike code
+getD-widened [] [] [] e f i = refl
+getD-widened [] (x ∷ a) b e f i = absurd (omega arith)
+getD-widened (h ∷ hs) [] b e f i = absurd (omega arith)
+getD-widened [] [] (y ∷ b) e f i = absurd (omega arith)
+getD-widened (h ∷ hs) (x ∷ a) [] e f i = absurd (omega arith)
+getD-widened (h ∷ hs) (x ∷ a) (y ∷ b) e f zero = refl
+getD-widened (h ∷ hs) (x ∷ a) (y ∷ b) e f (suc i) = getD-widened hs a b (omega arith) (omega arith) i
 
 widened-four : (p q r s t u v w : Bool)
     → bitOr (64 * heldPair p + 16 * heldPair q + 4 * heldPair r + heldPair s) (four (heldPair t) (heldPair u) (heldPair v) (heldPair w))
@@ -163,9 +140,8 @@ pub widened-byte : (held : List Bool) (a b : Cube) → length held ≡ length a 
     → bitOr (heldByte held k) (differingByte (byteAt a k) (byteAt b k)) ≡ heldByte (adjust _||_ held (differing a b)) k
 unfolding byteAt heldByte
 widened-byte held a b eh ea k =
-    let long : length held ≡ length (differing a b) = eh ∙ sym (length-differing a b ea) in
     let h : ℕ → Bool = λ i. getD held i false in
     let x : ℕ → Three = λ i. getD a i unknown in
     let y : ℕ → Three = λ i. getD b i unknown in
-    simp (getD-held held (differing a b) long, getD-differing a b ea)
+    simp (getD-widened held a b eh ea)
     (widened-all (h (4 * k)) (h (4 * k + 1)) (h (4 * k + 2)) (h (4 * k + 3)) (x (4 * k)) (x (4 * k + 1)) (x (4 * k + 2)) (x (4 * k + 3)) (y (4 * k)) (y (4 * k + 1)) (y (4 * k + 2)) (y (4 * k + 3)))

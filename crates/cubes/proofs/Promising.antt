@@ -5,14 +5,12 @@ use mathlib.Core.List.{List}
 use Prim.Native.Nat.{ℕ, zero, suc, _+_, _*_, _-_, _%_, _<_, _≤_}
 use native.Mathlib.Nat.{mod-lt}
 use native.Mathlib.Omega.{arith}
-use lib.ListN.{length, length-replicate}
+use lib.ListN.{length}
 use Rattle.three.specs.Lists.{over}
 use Rattle.three.specs.Cube.{knownFields}
 use Rattle.three.specs.Record.{unpack}
 use Rattle.three.proofs.Pack.{unpack-over}
-use Rattle.circuit.specs.declared.Counts.{Counts}
 use Rattle.circuit.specs.Refusal.{leftBy}
-use Rattle.circuit.specs.Table.{circuitOf}
 use Rattle.circuit.proofs.Refusals.{accepted-new}
 use Rattle.cubes.specs.declared.RunAnswer.{RunAnswer}
 use Rattle.cubes.specs.Run.{cubeAt, Ending, stops, full, verdict, settled}
@@ -23,9 +21,7 @@ use Rattle.cubes.specs.OutcomesInCode.{hasStopped}
 use Rattle.cubes.specs.Promise.{mostCubes, Covered, Promises}
 use Rattle.cubes.proofs.Promise.{covered-early, covered-late, lamp-judged, latch-settled}
 use Rattle.cubes.proofs.Closes.{run-closes, most-within}
-use Rattle.cubes.proofs.Buffered.{cubes-sized, lamps-counted, cube-in, latches-counted, literals-counted, stopped-is, stopped-within}
-use Rattle.cubes.proofs.Wider.{mergeFrom-sized}
-use Rattle.circuit.specs.Circuit.{Circuit}
+use Rattle.cubes.proofs.Buffered.{cube-in, latches-counted, stopped-is, stopped-within, verdict-sized, settled-sized}
 
 -- ---- number 0 says: not refused, and closed
 
@@ -44,20 +40,6 @@ number-says : (o : Ending) {k : ℕ} → k ≡ outcomeNumber o → (k ≡ 0 → 
 unfolding outcomeNumber
 number-says (stops n j) e h = absurd (h e)
 number-says full e h = (e, refl)
-
--- ---- the fields of verdict and settled record
-
-module _ (c : Counts) (words : List ℕ) (w n j : ℕ) where
-  abbrev circuit : Circuit
-  circuit = circuitOf c words
-
-  verdict-sized : length (verdict circuit (cubeAt circuit w) n) ≡ c .lamps
-  unfolding verdict
-  verdict-sized = mergeFrom-sized _ _ (c .lamps) (λ k. lamps-counted c words _) 0 (length-replicate (length (circuit .lamps)) _ ∙ literals-counted c words) n
-
-  settled-sized : length (settled circuit (cubeAt circuit w) n j) ≡ c .latches
-  unfolding settled
-  settled-sized = mergeFrom-sized _ _ (c .latches) (cubes-sized c words w) j (length-replicate (length (circuit .latches)) _ ∙ latches-counted c words) (n - j)
 
 -- ---- the promises
 
@@ -96,7 +78,7 @@ module _ (g : RunGiven) (r : RunAnswer) (cubes verdict′ settled′ : List ℕ)
     unfolding verdictFields circuitIn
     verdict-is =
         ap (unpack (g .counts .lamps)) (runs .fills-verdict ∙ written _ _)
-        ∙ unpack-over (g .counts .lamps) (verdictFields g) (g .verdict) (verdict-sized (g .counts) (g .table) (g .w) (cubesIn g) 0)
+        ∙ unpack-over (g .counts .lamps) (verdictFields g) (g .verdict) (verdict-sized (g .counts) (g .table) (g .w) (cubesIn g))
         ∙ ap (verdict (circuitIn g) (cubeAt (circuitIn g) (g .w))) (sym n-is)
 
     pub settled-is : unpack (g .counts .latches) settled′ ≡ settled (circuitIn g) (cubeAt (circuitIn g) (g .w)) (r .cubes) (r .back)

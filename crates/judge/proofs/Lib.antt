@@ -1,1 +1,3 @@
+pub mod Lamps
+pub mod Latches
 pub mod Judging

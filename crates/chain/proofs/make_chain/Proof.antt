@@ -1,6 +1,6 @@
 -- `chain::make_chain` meets its contract: cube 0 is stored, and followed. Assumes nothing.
 use mathlib.Core.Path.{refl}
-use Rattle.chain.proofs.Following.{start-followable, chained-from}
+use Rattle.chain.proofs.Beginning.{start-followable, chained-from}
 use Rattle.cubes.proofs.StoredCube.{some-bytes}
 use native.Mathlib.Omega.{arith}
 use borrow.Author.Needs.{needs}

@@ -2,7 +2,7 @@
 use Prim.Native.Nat.{_-_}
 use lib.ListN.{drop}
 use Rattle.three.proofs.Loops.{Stored, stored-first, stored-last}
-use Rattle.judge.proofs.Judging.{copy-next}
+use Rattle.judge.proofs.Latches.{copy-next}
 use native.Mathlib.Omega.{arith}
 use Rattle.judge.proofs.copy_cube.Statement.{statement}
 use Rattle.judge.proofs.copy_cube.Tie as tie

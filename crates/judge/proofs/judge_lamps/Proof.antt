@@ -4,7 +4,7 @@ use Prim.Native.Nat.{_-_, _≤_}
 use lib.ListN.{length}
 use Rattle.pass.proofs.Values.{fresh-begins}
 use Rattle.stored.specs.CubesInCode.{SwitchesX}
-use Rattle.judge.proofs.Judging.{Judged, first-cube, few-lamps, lamps-fit, lamp-place, judged-first, judged-record, judged-length, lamps-record, lamps-length, judged-next, judged-last}
+use Rattle.judge.proofs.Lamps.{Judged, first-cube, few-lamps, lamps-fit, lamp-place, judged-first, judged-record, judged-length, lamps-record, lamps-length, judged-next, judged-last}
 use native.Mathlib.Omega.{arith}
 use Rattle.judge.proofs.judge_lamps.Statement.{statement}
 use Rattle.judge.proofs.judge_lamps.Tie as tie
@@ -22,8 +22,7 @@ lamps-at-requires : tie.Need-lamps-at-requires Inv-loop μ-loop
 lamps-at-requires c κs =
     let start = c .before .before .before .before .before .before in
     let pre = start .pre in
-    let entry = start .args .verdict .now in
-    (pre .0 .legal, omega arith, first-cube _ _ _ _ _ (pre .0) entry (pre .1), fresh-begins _ (start .args .counts .inputs) (omega (arith, pre .0 .legal .bounded .inputs)) (c .before .before .fresh-values .ensures), pre .1)
+    (pre .0 .legal, omega arith, first-cube _ _ _ _ _ (pre .0), fresh-begins _ (start .args .counts .inputs) (omega (arith, pre .0 .legal .bounded .inputs)) (c .before .before .fresh-values .ensures), pre .1)
 
 loop-holds : tie.Need-loop-holds Inv-loop μ-loop
 loop-holds c =
@@ -35,13 +34,9 @@ loop-holds c =
 
 mul-lamps-at : tie.Need-mul-lamps-at Inv-loop μ-loop
 mul-lamps-at c =
-    let at = c .before in
-    let start = at .before .before .before .before .before .before .before .before .before .before in
+    let start = c .before .before .before .before .before .before .before .before .before .before .before in
     let pre = start .pre in
-    let entry = start .args .verdict .now in
-    let inv = at .loop .inv in
-    let first = at .before .before .before .lamps-at .ensures .1 in
-    omega (arith, lamp-place _ _ _ _ _ (pre .0) entry (pre .1) _ (c .loop-test .taken), start .good)
+    omega (arith, lamp-place _ _ _ _ _ (pre .0) _ (c .loop-test .taken), start .good)
 
 slice-aggregate-lamps-at : tie.Need-slice-aggregate-lamps-at Inv-loop μ-loop
 slice-aggregate-lamps-at c = sym (c .before .before .before .loop .inv .2)
@@ -51,11 +46,9 @@ lamps-at-requires-2 c κs =
     let at = c .before .before .before in
     let start = at .before .before .before .before .before .before .before .before .before .before in
     let pre = start .pre in
-    let entry = start .args .verdict .now in
     let inv = at .loop .inv in
-    let first = at .before .before .before .lamps-at .ensures .1 in
     let h = c .before .before .loop-test .taken in
-    (pre .0 .legal, lamp-place _ _ _ _ _ (pre .0) entry (pre .1) _ h, pre .0 .cube _ h, inv .0, omega (arith, few-lamps _ _ _ _ _ (pre .0) entry (pre .1), inv .2))
+    (pre .0 .legal, lamp-place _ _ _ _ _ (pre .0) _ h, pre .0 .cube _ h, inv .0, omega (arith, few-lamps _ _ _ _ _ (pre .0), inv .2))
 
 slice-aggregate-agree : tie.Need-slice-aggregate-agree Inv-loop μ-loop
 slice-aggregate-agree c =
@@ -65,7 +58,7 @@ slice-aggregate-agree c =
     let entry = start .args .verdict .now in
     let inv = at .loop .inv in
     let first = at .before .before .before .lamps-at .ensures .1 in
-    sym (lamps-length _ _ _ _ _ (pre .0) entry (pre .1) _ first _ _ _ (lamps-fit _ _ _ _ _ (pre .0) entry (pre .1) (at .loop .lamps) (inv .2)) (c .before .before .before .lamps-at2 .ensures .1) ∙ inv .2)
+    sym (lamps-length _ _ _ _ _ (pre .0) entry (pre .1) _ first _ _ _ (lamps-fit _ _ _ _ _ (pre .0) (at .loop .lamps) (inv .2)) (c .before .before .before .lamps-at2 .ensures .1) ∙ inv .2)
 
 agree-requires : tie.Need-agree-requires Inv-loop μ-loop
 agree-requires c κs =
@@ -75,7 +68,7 @@ agree-requires c κs =
     let entry = start .args .verdict .now in
     let inv = at .loop .inv in
     let first = at .before .before .before .lamps-at .ensures .1 in
-    (judged-record _ _ _ _ _ (pre .0) entry (pre .1) _ first _ _ (inv .1), lamps-record _ _ _ _ _ (pre .0) entry (pre .1) _ first _ _ _ (lamps-fit _ _ _ _ _ (pre .0) entry (pre .1) (at .loop .lamps) (inv .2)) (c .before .before .before .lamps-at2 .ensures .1))
+    (judged-record _ _ _ _ _ (pre .0) entry (pre .1) _ first _ _ (inv .1), lamps-record _ _ _ _ _ (pre .0) entry (pre .1) _ first _ _ _ (lamps-fit _ _ _ _ _ (pre .0) (at .loop .lamps) (inv .2)) (c .before .before .before .lamps-at2 .ensures .1))
 
 add-k : tie.Need-add-k Inv-loop μ-loop
 add-k c = omega arith
@@ -92,7 +85,7 @@ loop-again c =
     let inv = at .loop .inv in
     let first = at .before .before .before .lamps-at .ensures .1 in
     let read = c .before .before .before .before .before .before .lamps-at2 .ensures in
-    let wide = lamps-fit _ _ _ _ _ (pre .0) entry (pre .1) (at .loop .lamps) (inv .2) in
+    let wide = lamps-fit _ _ _ _ _ (pre .0) (at .loop .lamps) (inv .2) in
     (read .0, judged-next _ _ _ _ _ (pre .0) entry (pre .1) _ first _ _ _ wide (read .1) _ _ (inv .1) (c .before .before .agree .ensures), lamps-length _ _ _ _ _ (pre .0) entry (pre .1) _ first _ _ _ wide (read .1) ∙ inv .2, omega (arith, c .before .before .before .before .before .before .before .before .before .loop-test .taken))
 
 same-length : tie.Need-same-length Inv-loop μ-loop

@@ -1,7 +1,7 @@
 -- `judge::settle_latches` meets its contract: the cubes from j on are merged one after the other. Assumes nothing.
 use Prim.Native.Nat.{_-_, _≤_}
 use Rattle.cubes.proofs.StoredCube.{cube-bytes}
-use Rattle.judge.proofs.Judging.{Settled, latch-place, cube-record, settled-first, settled-record, settled-length, settled-next, settled-last}
+use Rattle.judge.proofs.Latches.{Settled, latch-place, cube-record, settled-first, settled-record, settled-length, settled-next, settled-last}
 use native.Mathlib.Omega.{arith}
 use Rattle.judge.proofs.settle_latches.Statement.{statement}
 use Rattle.judge.proofs.settle_latches.Tie as tie
@@ -16,15 +16,13 @@ mul-copy-cube : tie.Need-mul-copy-cube Inv-loop μ-loop
 mul-copy-cube c =
     let start = c .before .before in
     let pre = start .pre in
-    let entry = start .args .settled .now in
-    omega (arith, latch-place _ _ _ _ _ (pre .0) entry (pre .1) _ (pre .0 .below), start .good)
+    omega (arith, latch-place _ _ _ _ _ (pre .0) _ (pre .0 .below), start .good)
 
 copy-cube-requires : tie.Need-copy-cube-requires Inv-loop μ-loop
 copy-cube-requires c κs =
     let start = c .before .before .before in
     let pre = start .pre in
-    let entry = start .args .settled .now in
-    (latch-place _ _ _ _ _ (pre .0) entry (pre .1) _ (pre .0 .below), omega (arith, pre .0 .size, pre .1, cube-bytes (start .args .latches)))
+    (latch-place _ _ _ _ _ (pre .0) _ (pre .0 .below), omega (arith, pre .0 .size, pre .1, cube-bytes (start .args .latches)))
 
 add-k : tie.Need-add-k Inv-loop μ-loop
 add-k c = omega arith
@@ -38,39 +36,24 @@ loop-holds c =
 
 mul-agree : tie.Need-mul-agree Inv-loop μ-loop
 mul-agree c =
-    let at = c .before .before in
-    let start = at .before .before .before .before .before .before .before in
+    let start = c .before .before .before .before .before .before .before .before .before in
     let pre = start .pre in
-    let entry = start .args .settled .now in
-    let inv = at .loop .inv in
-    omega (arith, latch-place _ _ _ _ _ (pre .0) entry (pre .1) _ (c .before .loop-test .taken), start .good)
+    omega (arith, latch-place _ _ _ _ _ (pre .0) _ (c .before .loop-test .taken), start .good)
 
 sub-agree : tie.Need-sub-agree Inv-loop μ-loop
 sub-agree c =
-    let at = c .before .before in
-    let start = at .before .before .before .before .before .before .before in
-    let pre = start .pre in
-    let entry = start .args .settled .now in
-    let inv = at .loop .inv in
-    omega (arith, latch-place _ _ _ _ _ (pre .0) entry (pre .1) _ (c .before .loop-test .taken))
+    let pre = c .before .before .before .before .before .before .before .before .before .pre in
+    omega (arith, latch-place _ _ _ _ _ (pre .0) _ (c .before .loop-test .taken))
 
 part-agree-start : tie.Need-part-agree-start Inv-loop μ-loop
 part-agree-start c =
-    let at = c .before .before in
-    let start = at .before .before .before .before .before .before .before in
-    let pre = start .pre in
-    let entry = start .args .settled .now in
-    let inv = at .loop .inv in
-    omega (arith, latch-place _ _ _ _ _ (pre .0) entry (pre .1) _ (c .before .loop-test .taken))
+    let pre = c .before .before .before .before .before .before .before .before .before .pre in
+    omega (arith, latch-place _ _ _ _ _ (pre .0) _ (c .before .loop-test .taken))
 
 part-agree-end : tie.Need-part-agree-end Inv-loop μ-loop
 part-agree-end c =
-    let at = c .before .before in
-    let start = at .before .before .before .before .before .before .before in
-    let pre = start .pre in
-    let entry = start .args .settled .now in
-    let inv = at .loop .inv in
-    omega (arith, latch-place _ _ _ _ _ (pre .0) entry (pre .1) _ (c .before .loop-test .taken))
+    let pre = c .before .before .before .before .before .before .before .before .before .pre in
+    omega (arith, latch-place _ _ _ _ _ (pre .0) _ (c .before .loop-test .taken))
 
 agree-requires : tie.Need-agree-requires Inv-loop μ-loop
 agree-requires c κs =
@@ -79,7 +62,7 @@ agree-requires c κs =
     let pre = start .pre in
     let entry = start .args .settled .now in
     let inv = at .loop .inv in
-    (settled-record _ _ _ _ _ (pre .0) entry (pre .1) (λ i. at .before .before .before .before .before .before .shared-slice-known .given i .fits) _ (at .before .before .before .copy-cube .ensures) _ _ (inv .0), cube-record _ _ _ _ _ (pre .0) entry (pre .1) _ (c .before .before .loop-test .taken))
+    (settled-record _ _ _ _ _ (pre .0) entry (pre .1) (λ i. at .before .before .before .before .before .before .shared-slice-known .given i .fits) _ (at .before .before .before .copy-cube .ensures) _ _ (inv .0), cube-record _ _ _ _ _ (pre .0) _ (c .before .before .loop-test .taken))
 
 add-k-2 : tie.Need-add-k-2 Inv-loop μ-loop
 add-k-2 c = omega arith
