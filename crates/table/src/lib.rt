@@ -120,7 +120,7 @@ pub fn ceiling_refusal(counts: Counts) -> u32
 }
 
 // The refusals of a table's words, in order: 10 for the table, 11; 0 for none.
-pub fn word_refusal(counts: Counts, table: &[u16]) -> u32
+fn word_refusal(counts: Counts, table: &[u16]) -> u32
     requires { ⌜ Bounded counts ⌝ }
     ensures { λ r. ⌜ r ≡ refusal (wordTests counts (now (table .entry))) ⌝ }
 {
