@@ -24,16 +24,16 @@ strip-byte b d t h = strip-other b d [] t (ne-eqb b d (λ e. h (sym e)))
 
 module _ (text : List ℕ) (at : ℕ) where
   pub ending-end : (e : Ending) → at ≡ length text → EndingAt (endingBytes e) text at 0
-  unfolding endingBytes stripped
+  unfolding stripped
   ending-end Newline h = record { reads = rw (from-end text at (omega arith)) (strip-none 10 []); within = omega arith }
 
   module _ (h : at < length text) where
     pub ending-here : (e : Ending) → getD text at 0 ≡ 10 → EndingAt (endingBytes e) text at 1
-    unfolding endingBytes stripped
+    unfolding stripped
     ending-here Newline b = record { reads = rw (from-byte text at h, b) (strip-front newline _); within = omega arith }
 
     pub ending-other : (e : Ending) → (getD text at 0 ≡ 10 → ⊥) → EndingAt (endingBytes e) text at 0
-    unfolding endingBytes stripped
+    unfolding stripped
     ending-other Newline b = record { reads = rw (from-byte text at h) (strip-byte 10 _ _ b); within = omega arith }
 
 -- what it says of its length

@@ -40,7 +40,7 @@ pub record NumberFound (text : List ℕ) (p : Part ℕ) (n : ReadNumber) : Type 
   pub within : numberEnd n ≤ length text
 
 -- the ending that the code means
-unfoldable pub endingBytes : Ending → List ℕ
+abbrev pub endingBytes : Ending → List ℕ
 endingBytes Newline = newline
 
 -- the text behind an ending of so many bytes; there is none of no byte

@@ -61,10 +61,7 @@ after-none o e = rw e
 
 no-numbers : (k : Kind) → fits k 0 ≡ false
 unfolding fits
-no-numbers (input own) = refl
-no-numbers (latch own) = refl
-no-numbers literal = refl
-no-numbers (gate own) = refl
+no-numbers k = elim k [ input own ↦ refl | latch own ↦ refl | gate own ↦ refl | literal ↦ refl ]
 
 pub line-judged : (ending text : List ℕ) (at most : ℕ) (k : Kind) (l : ReadLine) (n : ℕ) → LineFound text (readLine ending (from text at)) l → n ≡ refusal (lineTests most k (numbersOf l))
     → LinesJudged ending text at (lineTests most) (λ ks. k ∷ ks) (record { number = n; next = l .next })

@@ -46,20 +46,14 @@ shown-spelled own next (suc r) ws = latchLine
 
 pub length-words : (k : Kind) (ns : List ℕ) → length (words k ns) ≡ width k
 unfolding words width
-length-words (input own) ns = refl
-length-words (latch own) ns = refl
-length-words literal ns = refl
-length-words (gate own) ns = refl
+length-words k ns = elim k [ input own ↦ refl | latch own ↦ refl | gate own ↦ refl | literal ↦ refl ]
 
 pub drop-words : (k : Kind) (ns ws : List ℕ) → drop (width k) (words k ns ++ ws) ≡ ws
 drop-words k ns ws = drop-at (words k ns) ws (width k) (length-words k ns)
 
 pub rules-words : (most : ℕ) (k : Kind) (ns ws : List ℕ) → rowTests most k (words k ns ++ ws) ≡ rowTests most k (words k ns)
 unfolding words rowTests
-rules-words most (input own) ns ws = refl
-rules-words most (latch own) ns ws = refl
-rules-words most literal ns ws = refl
-rules-words most (gate own) ns ws = refl
+rules-words most k ns ws = elim k [ input own ↦ refl | latch own ↦ refl | gate own ↦ refl | literal ↦ refl ]
 
 -- ---- what is spelled is read
 

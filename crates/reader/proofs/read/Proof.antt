@@ -1,5 +1,4 @@
 -- `reader::read` meets its contract: the text is judged as a whole before a word is stored. Assumes nothing.
-use Rattle.lines.specs.LinesInCode.{endingBytes}
 use Rattle.reader.proofs.Answering.{answers-refused, starts, answers-short, fillable, answers-filled}
 use native.Mathlib.Omega.{arith}
 use borrow.Author.Needs.{needs}
@@ -16,7 +15,6 @@ refused-requires : tie.Need-refused-requires
 refused-requires c κs = search needs
 
 returns : tie.Need-returns
-unfolding endingBytes
 returns c =
     let known = c .before .before in
     answers-refused _ _ (known .before .before .judge .ensures) (known .judgement .given .1) (c .refused .ensures .0) (c .refused .ensures .1)
@@ -31,13 +29,11 @@ refused-requires-2 : tie.Need-refused-requires-2
 refused-requires-2 c κs = search needs
 
 returns-2 : tie.Need-returns-2
-unfolding endingBytes
 returns-2 c =
     let known = c .before .before .before .before in
     answers-short _ _ (known .before .before .judge .ensures) (known .judgement2 .given .1) (c .refused2 .ensures .0) (c .refused2 .ensures .1) (omega arith)
 
 fill-requires : tie.Need-fill-requires
-unfolding endingBytes
 fill-requires c κs =
     let known = c .before .before .before .before in
     fillable _ _ (known .before .before .judge .ensures) (known .judgement2 .given .1) (omega arith)
@@ -46,7 +42,6 @@ same-length : tie.Need-same-length
 same-length c = search needs
 
 returns-3 : tie.Need-returns-3
-unfolding endingBytes
 returns-3 c =
     let known = c .before .before .before .before .before .before .before in
     answers-filled _ _ (known .before .before .judge .ensures) (known .judgement2 .given .1) (omega arith) (c .before .before .fill .ensures)
