@@ -13,10 +13,10 @@ use Rattle.text.specs.Outcome.{after, tested, onward}
 use Rattle.text.specs.Text.{fits, owns, words, lineTests, ends, readBody, header, countsOf, headerTests, readText}
 use Rattle.text.specs.Bench.{bytes}
 use Rattle.cubes.specs.Buffer.{cubeBytes}
-use Rattle.cubes.specs.Run.{hold, differing, due, switchesUnknown, nextCube, lampsIn, startField, start, reached, widened, store, stage, cubeAt, search, stepped, back, run, merge, mergeFrom, verdict, settled}
+use Rattle.cubes.specs.Run.{hold, differing, due, switchesUnknown, nextCube, lampsIn, startField, resets, start, reached, widened, store, stage, cubeAt, search, stepped, back, run, merge, mergeFrom, verdict, settled}
 use Rattle.rows.specs.Rows.{item, said, row, rows}
 use Rattle.report.specs.Report.{closing, refusing, closedReport, ended, runReport, reported, reportOf}
 
 pub shown : reportOf (bytes "aag 3 0 2 1 1/2 4/4 2 1/6/6 4 2/") ≡ bytes "cubes 2 back 0 settled 0/lamp 0 never/latch 0 -/latch 1 -/"
-unfolding bytes refusal ceilingTests several kinds rowTests decimal digits isDigit mayGrow readOn readNumber strip prepend splitLine after tested onward fits owns words lineTests ends readBody header countsOf headerTests readText tabulate adjust code both inverse ternary alike allows subsumes blank agree merged knownFields signed value pass settle next lamps circuitOf gatesFrom cubeBytes hold differing due switchesUnknown nextCube lampsIn startField start reached widened store stage cubeAt search stepped back run merge mergeFrom verdict settled item said row rows closing refusing closedReport ended runReport reported reportOf flatMap zipWith
+unfolding bytes refusal ceilingTests several kinds rowTests decimal digits isDigit mayGrow readOn readNumber strip prepend splitLine after tested onward fits owns words lineTests ends readBody header countsOf headerTests readText tabulate adjust code both inverse ternary alike allows subsumes blank agree merged knownFields signed value pass settle next lamps circuitOf gatesFrom cubeBytes hold differing due switchesUnknown nextCube lampsIn startField resets start reached widened store stage cubeAt search stepped back run merge mergeFrom verdict settled item said row rows closing refusing closedReport ended runReport reported reportOf flatMap zipWith
 shown = refl

@@ -9,12 +9,12 @@ use Rattle.circuit.specs.Circuit.{signed, value, pass, settle, next, lamps}
 use Rattle.circuit.specs.Refusal.{allHold, leftBy}
 use Rattle.circuit.specs.Table.{width, tableTests, circuitOf, gatesFrom, circuitTests}
 use Rattle.text.specs.Bench.{bytes, outcomeOf}
-use Rattle.cubes.specs.Run.{hold, differing, due, switchesUnknown, nextCube, lampsIn, startField, start, reached, widened, store, stage, cubeAt, search, stepped, back, run, merge, mergeFrom, verdict, settled}
+use Rattle.cubes.specs.Run.{hold, differing, due, switchesUnknown, nextCube, lampsIn, startField, resets, start, reached, widened, store, stage, cubeAt, search, stepped, back, run, merge, mergeFrom, verdict, settled}
 use Rattle.cubes.specs.Buffer.{cubeBytes, packCube, packCubes}
 use Rattle.cubes.specs.Call.{roomIn, storedCubes, backTo, outcomeNumber, runResultTests, runTests, refusedBy, circuitIn, outcomeIn}
 use Rattle.witness.specs.Answer.{answerFrom, answerIn}
 use Rattle.witness.specs.Case.{Case, same, holds, holdAll, refusedWith, ranAs, passes, allPass}
 
 unfoldable pub computed : List Case → Bool
-unfolding outcomeOf bytes tabulate adjust over code both inverse ternary alike allows subsumes blank agree merged knownFields byteOf byteAt pack signed value pass settle next lamps allHold leftBy width tableTests circuitOf gatesFrom circuitTests hold differing due switchesUnknown nextCube lampsIn startField start reached widened store stage cubeAt search stepped back run merge mergeFrom verdict settled packCubes packCube cubeBytes flatMap zipWith roomIn storedCubes backTo outcomeNumber runResultTests runTests refusedBy circuitIn outcomeIn answerFrom answerIn same holds holdAll refusedWith ranAs passes allPass
+unfolding outcomeOf bytes tabulate adjust over code both inverse ternary alike allows subsumes blank agree merged knownFields byteOf byteAt pack signed value pass settle next lamps allHold leftBy width tableTests circuitOf gatesFrom circuitTests hold differing due switchesUnknown nextCube lampsIn startField resets start reached widened store stage cubeAt search stepped back run merge mergeFrom verdict settled packCubes packCube cubeBytes flatMap zipWith roomIn storedCubes backTo outcomeNumber runResultTests runTests refusedBy circuitIn outcomeIn answerFrom answerIn same holds holdAll refusedWith ranAs passes allPass
 computed cases = allPass cases
