@@ -17,7 +17,8 @@ use Rattle.text.specs.Calls.{Reading}
 use Rattle.text.specs.Bench.{bytes, outcomeOf}
 use Rattle.text.proofs.Answers.{read-fits, reading-accepted}
 use Rattle.text.proofs.Determined.{reading-determined}
-use Rattle.cubes.specs.Execution.{Allows, resets, Execution, settings, stateAfter, lampsAfter}
+use Rattle.cubes.specs.Run.{resets}
+use Rattle.cubes.specs.Execution.{Allows, Execution, settings, stateAfter, lampsAfter}
 use Rattle.witness.proofs.Cases.{circuit-read}
 use Rattle.witness.proofs.Switching.{off-with-inverse}
 use Rattle.bench.specs.Bench.{K·}

@@ -47,10 +47,7 @@ module _ (c : Counts) (words : List ℕ) (w len room : ℕ) (buffer : List ℕ) 
     cubes-fit = rw (f .size) (all-fits c words w buffer g)
 
     pub place-fits : (count - 1) * len ≤ length cubes
-    place-fits = omega (arith, mul-le-mul-right len (pred-le count), cubes-fit)
-      where
-        pred-le : (n : ℕ) → n - 1 ≤ n
-        pred-le n = omega arith
+    place-fits = let less : count - 1 ≤ count = omega arith in omega (arith, mul-le-mul-right len less, cubes-fit)
 
     pub kept-length : length cubes ≡ length buffer
     kept-length = same-length c words w buffer g
@@ -103,10 +100,9 @@ module _ (c : Counts) (words : List ℕ) (w len room : ℕ) (buffer : List ℕ) 
             omega (arith, mul-le-mul-right len below, suc-mul count len)
 
         pub count-small : count < 65536
-        count-small = omega (arith, mul-le-mul-right count (some-bytes), mul-comm count len, one-mul count, next-fits, f .small, some-bytes)
-          where
-            some-bytes : 1 ≤ len
-            some-bytes = omega (arith, f .size, cube-some (c .latches))
+        count-small =
+            let some : 1 ≤ len = omega (arith, f .size, cube-some (c .latches)) in
+            omega (arith, mul-le-mul-right count some, mul-comm count len, one-mul count, next-fits, f .small)
 
         pub next-fits-now : count * len + len ≤ length cubes
         next-fits-now = omega (arith, next-fits, kept-length)

@@ -10,11 +10,10 @@ use Rattle.three.specs.Lists.{Each, empty, also, tabulate}
 use Rattle.three.specs.Cube.{Holds, off, on, _∋_}
 use Rattle.three.proofs.Lists.{getD-tabulate, getD-beyond, map-tabulate, each-map}
 use Rattle.circuit.specs.declared.Counts.{Counts}
-use Rattle.circuit.specs.Circuit.{Circuit, Latch}
 use Rattle.circuit.specs.Table.{circuitOf}
 use Rattle.circuit.specs.RulesInCode.{Legal}
-use Rattle.cubes.specs.Run.{startField, start}
-use Rattle.cubes.specs.Execution.{Allows, off, on, resets, Execution}
+use Rattle.cubes.specs.Run.{startField, resets}
+use Rattle.cubes.specs.Execution.{Allows, off, on, Execution}
 
 -- ---- one latch
 
@@ -48,24 +47,14 @@ pub allowed-one : {rs : List ℕ} {s s′ : List Bool} → Each Allows rs s → 
 allowed-one empty empty = refl
 allowed-one (also a as′) (also b bs) = ap₂ (λ (x : Bool) (xs : List Bool). x ∷ xs) (allows-one a b) (allowed-one as′ bs)
 
-module _ (c : Circuit) where
-  pub allowed-starts : {s : List Bool} → Each Allows (resets c) s → start c ∋ s
-  unfolding start resets
-  allowed-starts h = go (c .latches) h
-    where
-      go : (ls : List Latch) {s : List Bool} → Each Allows (map (λ (l : Latch). l .reset) ls) s → map (λ (l : Latch). startField (l .reset)) ls ∋ s
-      go [] empty = empty
-      go (l ∷ ls) (also a rest) = also (allows-holds a) (go ls rest)
+pub allowed-starts : {rs : List ℕ} {s : List Bool} → Each Allows rs s → map startField rs ∋ s
+allowed-starts empty = empty
+allowed-starts (also a rest) = also (allows-holds a) (allowed-starts rest)
 
-  -- where no reset is above 1
-  pub starts-allowed : ((i : ℕ) → getD (resets c) i 0 ≤ 1) → {s : List Bool} → start c ∋ s → Each Allows (resets c) s
-  unfolding start resets
-  starts-allowed small h = go (c .latches) small h
-    where
-      go : (ls : List Latch) → ((i : ℕ) → getD (map (λ (l : Latch). l .reset) ls) i 0 ≤ 1) → {s : List Bool} → map (λ (l : Latch). startField (l .reset)) ls ∋ s
-          → Each Allows (map (λ (l : Latch). l .reset) ls) s
-      go [] small empty = empty
-      go (l ∷ ls) small (also h hs) = also (holds-allows (l .reset) (small 0) h) (go ls (λ i. small (suc i)) hs)
+-- where no reset is above 1
+pub starts-allowed : (rs : List ℕ) → ((i : ℕ) → getD rs i 0 ≤ 1) → {s : List Bool} → map startField rs ∋ s → Each Allows rs s
+starts-allowed [] small empty = empty
+starts-allowed (r ∷ rs) small (also h hs) = also (holds-allows r (small 0) h) (starts-allowed rs (λ i. small (suc i)) hs)
 
 -- ---- from an accepted table
 
@@ -83,9 +72,8 @@ module _ (c : Counts) (words : List ℕ) (legal : Legal c words) where
 
   -- the execution under these switches
   pub executes : (ℕ → ℕ → Bool) → Execution (circuitOf c words)
-  unfolding start
   executes switches = record {
     switches = switches;
-    first = map (λ (l : Latch). resetBit (l .reset)) (circuitOf c words .latches);
-    allowed = starts-allowed (circuitOf c words) resets-small (each-map _ _ (λ (l : Latch). bit-holds (l .reset)) (circuitOf c words .latches));
+    first = map resetBit (resets (circuitOf c words));
+    allowed = starts-allowed _ resets-small (each-map startField resetBit bit-holds (resets (circuitOf c words)));
   }

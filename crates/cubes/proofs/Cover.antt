@@ -73,7 +73,7 @@ module _ {c : Circuit} {cubes : ℕ → Cube} {n origin : ℕ} {follow : ℕ →
   module _ (e : Execution c) where
     pub visited-covers : (t : ℕ) → cubes (visited origin follow t) ∋ stateAfter e t
     unfolding stateAfter visited
-    visited-covers zero = subsumes-widens _ (cover .starts .1) (allowed-starts c (e .allowed))
+    visited-covers zero = subsumes-widens _ (cover .starts .1) (unfold start in allowed-starts (e .allowed))
     visited-covers (suc t) = subsumes-widens _ (cover .follows _ (visited-below t) .1) (next-within e t (visited-covers t))
 
     verdict-covers : (t : ℕ) → verdict c cubes n ∋ lampsAfter e t

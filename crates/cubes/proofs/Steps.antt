@@ -77,17 +77,9 @@ module _ (c : Circuit) (w : ℕ) where
       go full nowhere past l = goes-on past l
 
   -- one step of the run
-  run-step : (k : ℕ) {f : Found} → run c w k ≡ full → back c w k ≡ f → run c w (suc k) ≡ stepped (suc k) full f
+  pub run-step : (k : ℕ) {f : Found} → run c w k ≡ full → back c w k ≡ f → run c w (suc k) ≡ stepped (suc k) full f
   unfolding run
   run-step k e g = ap₂ (stepped (suc k)) e g
-
-  pub run-stops-now : (k j : ℕ) → run c w k ≡ full → back c w k ≡ at j → run c w (suc k) ≡ stops (suc k) j
-  unfolding stepped
-  run-stops-now k j e g = run-step k e g
-
-  pub run-goes-on : (k : ℕ) → run c w k ≡ full → back c w k ≡ nowhere → run c w (suc k) ≡ full
-  unfolding stepped
-  run-goes-on k e g = run-step k e g
 
   -- a run that stops stays so with more room
   pub run-stays : (k more n j : ℕ) → run c w k ≡ stops n j → run c w (k + more) ≡ stops n j

@@ -12,7 +12,7 @@ use Rattle.three.specs.Cube.{Cube, alike, allows, subsumes, Holds, any, off, on
 use Rattle.three.proofs.Lists.{and-parts, length-adjust}
 use Rattle.three.proofs.Merge.{length-merged, merged-covers-left, merged-covers-right}
 use Rattle.circuit.specs.Circuit.{Circuit}
-use Rattle.cubes.specs.Run.{hold, nextCube, start, reached, Stage, store, stage, cubeAt, merge, mergeFrom}
+use Rattle.cubes.specs.Run.{hold, nextCube, start, reached, Stage, store, stage, cubeAt, merge, mergeFrom, resets}
 use Rattle.circuit.proofs.Pass.{next-sized}
 
 -- ---- subsuming cubes
@@ -73,6 +73,6 @@ reached-sized c s = length-adjust _ _ _ ∙ next-sized ternary c _ _
 
 module _ (c : Circuit) (w : ℕ) where
   pub cube-sized : (k : ℕ) → length (cubeAt c w k) ≡ length (c .latches)
-  unfolding cubeAt stage store start hold
-  cube-sized zero = length-map (c .latches) _
+  unfolding cubeAt stage store start resets hold
+  cube-sized zero = length-map (resets c) _ ∙ length-map (c .latches) _
   cube-sized (suc k) = length-adjust _ _ _ ∙ reached-sized c (stage c w k)

@@ -1,18 +1,16 @@
 -- What really happens: a Boolean execution under any switch sequence, from a state that the resets allow. Assumes nothing.
 use mathlib.Core.Bool.{Bool, true, false}
-use mathlib.Core.List.{List, map}
+use mathlib.Core.List.{List}
 use Prim.Native.Nat.{ℕ, zero, suc}
 use Rattle.three.specs.Lists.{tabulate, Each}
 use Rattle.three.specs.Value.{boolean}
-use Rattle.circuit.specs.Circuit.{Circuit, Latch, next, lamps}
+use Rattle.circuit.specs.Circuit.{Circuit, next, lamps}
+use Rattle.cubes.specs.Run.{resets}
 
 -- a reset allows its own bit
 pub data Allows : ℕ → Bool → Type 0 where
   off : Allows 0 false
   on : Allows 1 true
-
-unfoldable pub resets : Circuit → List ℕ
-resets c = map (λ (l : Latch). l .reset) (c .latches)
 
 -- `switches t i` is switch i at tick t
 pub record Execution (c : Circuit) : Type 0 where

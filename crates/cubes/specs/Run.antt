@@ -39,9 +39,12 @@ unfoldable pub startField : ℕ → Three
 startField zero = low
 startField (suc n) = high
 
+unfoldable pub resets : Circuit → List ℕ
+resets c = map (λ (l : Latch). l .reset) (c .latches)
+
 -- cube 0 is the resets
 unfoldable pub start : Circuit → Cube
-start c = map (λ (l : Latch). startField (l .reset)) (c .latches)
+start c = map startField (resets c)
 
 -- a stored cube, and which latches are held unknown once it is stored
 pub record Stage : Type 0 where

@@ -1,13 +1,13 @@
 -- Cube 0: its fields are the resets that stand in the table's words. Assumes nothing.
 use mathlib.Core.Path.{_≡_, sym, ap, _∙_}
-use mathlib.Core.List.{List}
+use mathlib.Core.List.{List, map}
 use Prim.Native.Nat.{ℕ, zero, suc, _+_, _*_, _<_, _≤_}
 use lib.ListN.{length, getD}
 use Rattle.three.specs.Value.{unknown, code}
 use Rattle.three.proofs.Lists.{length-tabulate, getD-tabulate, getD-beyond, map-tabulate}
 use Rattle.circuit.specs.declared.Counts.{Counts}
 use Rattle.circuit.specs.Table.{circuitOf}
-use Rattle.cubes.specs.Run.{startField, start}
+use Rattle.cubes.specs.Run.{startField, resets, start}
 use Rattle.stored.specs.CubesInCode.{startFields}
 use Rattle.three.specs.Lists.{over}
 use Rattle.three.specs.Record.{pack}
@@ -15,8 +15,8 @@ use Rattle.cubes.specs.Buffer.{packCube}
 use Rattle.cubes.proofs.StoredCube.{cube-pack}
 
 pub start-fields : (c : Counts) (words : List ℕ) → start (circuitOf c words) ≡ startFields words (c .latches)
-unfolding start startFields circuitOf
-start-fields c words = map-tabulate _ (c .latches) _
+unfolding start resets startFields circuitOf
+start-fields c words = ap (map startField) (map-tabulate _ (c .latches) _) ∙ map-tabulate startField (c .latches) _
 
 module _ (words : List ℕ) (count : ℕ) where
   pub start-sized : length (startFields words count) ≡ count

@@ -9,12 +9,12 @@ use Rattle.circuit.specs.Circuit.{signed, value, pass, settle, next, lamps, rea
 use Rattle.circuit.specs.Refusal.{allHold, leftBy}
 use Rattle.circuit.specs.Table.{width, tableTests, circuitOf, gatesFrom, wordTests, circuitTests, boardTests}
 use Rattle.text.specs.Bench.{bytes, outcomeOf}
-use Rattle.cubes.specs.Run.{hold, differing, due, switchesUnknown, nextCube, lampsIn, startField, start, reached, widened, store, stage, cubeAt, search, stepped, back, run, merge, mergeFrom, verdict, settled}
+use Rattle.cubes.specs.Run.{hold, differing, due, switchesUnknown, nextCube, lampsIn, startField, resets, start, reached, widened, store, stage, cubeAt, search, stepped, back, run, merge, mergeFrom, verdict, settled}
 use Rattle.cubes.specs.Buffer.{cubeBytes, packCube, packCubes}
 use Rattle.cubes.specs.Call.{roomIn, storedCubes, backTo, outcomeNumber, runResultTests, runTests, refusedBy, circuitIn, outcomeIn}
 use Rattle.witness.specs.Answer.{answerFrom, answerIn}
 use Rattle.witness.specs.Case.{Case, same, holds, holdAll, refusedWith, ranAs, passes, allPass}
 
 unfoldable pub computed : List Case → Bool
-unfolding outcomeOf bytes tabulate adjust over code both inverse ternary alike allows subsumes blank agree merged knownFields byteOf byteAt pack signed value pass settle readings allHold leftBy width tableTests circuitOf gatesFrom wordTests circuitTests boardTests hold differing due switchesUnknown nextCube lampsIn startField start reached widened store stage cubeAt search back run merge verdict settled flatMap zipWith roomIn storedCubes backTo outcomeNumber runResultTests runTests refusedBy circuitIn outcomeIn answerFrom answerIn same holds holdAll refusedWith ranAs passes allPass packCubes packCube cubeBytes stepped mergeFrom readings
+unfolding outcomeOf bytes tabulate adjust over code both inverse ternary alike allows subsumes blank agree merged knownFields byteOf byteAt pack signed value pass settle readings allHold leftBy width tableTests circuitOf gatesFrom wordTests circuitTests boardTests hold differing due switchesUnknown nextCube lampsIn startField start reached widened store stage cubeAt search back run merge verdict settled flatMap zipWith roomIn storedCubes backTo outcomeNumber runResultTests runTests refusedBy circuitIn outcomeIn answerFrom answerIn same holds holdAll refusedWith ranAs passes allPass packCubes packCube cubeBytes stepped mergeFrom readings next lamps resets
 computed cases = allPass cases

@@ -9,7 +9,8 @@ use Rattle.circuit.specs.declared.Counts.{Counts}
 use Rattle.circuit.specs.Circuit.{Circuit}
 use Rattle.circuit.specs.Table.{circuitOf}
 use Rattle.cubes.specs.Call.{RunGiven}
-use Rattle.cubes.specs.Execution.{off, resets, Execution}
+use Rattle.cubes.specs.Execution.{off, Execution}
+use Rattle.cubes.specs.Run.{resets}
 
 abbrev pub counts : Counts
 counts = record { inputs = 1; latches = 1; lamps = 1; gates = 1 }

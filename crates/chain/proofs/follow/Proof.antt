@@ -22,14 +22,10 @@ loop-holds c =
     turn-first _ _ _ _ _ _ f _ _ (fresh-begins _ (c .before .before .before .args .counts .inputs) (omega (arith, f .legal .bounded .inputs)) (c .fresh-values .ensures)) refl
 
 sub-reach : tie.Need-sub-reach Inv-loop μ-loop
-sub-reach c =
-    let t = c .before .before .loop .inv in
-    omega (arith, some-cubes _ _ _ _ _ _ t)
+sub-reach c = omega (arith, some-cubes _ _ _ _ _ _ (c .before .before .loop .inv))
 
 mul-reach : tie.Need-mul-reach Inv-loop μ-loop
-mul-reach c =
-    let t = c .before .before .loop .inv in
-    omega (arith, place-small _ _ _ _ _ _ t)
+mul-reach c = omega (arith, place-small _ _ _ _ _ _ (c .before .before .loop .inv))
 
 reach-requires : tie.Need-reach-requires Inv-loop μ-loop
 reach-requires c κs =
@@ -37,9 +33,7 @@ reach-requires c κs =
     (t .given .legal, place-fits _ _ _ _ _ _ t, place-record _ _ _ _ _ _ t, t .going .ready, t .long)
 
 slice-aggregate-search : tie.Need-slice-aggregate-search Inv-loop μ-loop
-slice-aggregate-search c =
-    let t = c .before .before .before .before .before .before .before .loop .inv in
-    sym (reached-long _ _ _ _ _ _ t _ _ (c .before .before .reach .ensures .1))
+slice-aggregate-search c = sym (reached-long _ _ _ _ _ _ (c .before .before .before .before .before .before .before .loop .inv) _ _ (c .before .before .reach .ensures .1))
 
 search-requires : tie.Need-search-requires Inv-loop μ-loop
 search-requires c κs =
@@ -47,9 +41,7 @@ search-requires c κs =
     (cubes-fit _ _ _ _ _ _ t, omega (arith, few-bytes _ _ _ _ _ _ t, reached-long _ _ _ _ _ _ t _ _ (c .before .before .reach .ensures .1)))
 
 same-length : tie.Need-same-length Inv-loop μ-loop
-same-length c =
-    let t = c .before .before .before .before .before .before .before .before .before .loop .inv in
-    kept-length _ _ _ _ _ _ t
+same-length c = kept-length _ _ _ _ _ _ (c .before .before .before .before .before .before .before .before .before .loop .inv)
 
 returns : tie.Need-returns Inv-loop μ-loop
 returns c =
@@ -57,9 +49,7 @@ returns c =
     closed-now _ _ _ _ _ _ t _ (reached _ _ _ _ _ _ t _ (c .before .before .before .before .reach .ensures .1)) _ (c .before .search .ensures) (c .if1 .taken)
 
 same-length-2 : tie.Need-same-length-2 Inv-loop μ-loop
-same-length-2 c =
-    let t = c .before .before .before .before .before .before .before .before .before .before .loop .inv in
-    kept-length _ _ _ _ _ _ t
+same-length-2 c = kept-length _ _ _ _ _ _ (c .before .before .before .before .before .before .before .before .before .before .loop .inv)
 
 returns-2 : tie.Need-returns-2 Inv-loop μ-loop
 returns-2 c =

@@ -41,19 +41,13 @@ mul-agree c =
     omega (arith, latch-place _ _ _ _ _ (pre .0) _ (c .before .loop-test .taken), start .good)
 
 sub-agree : tie.Need-sub-agree Inv-loop μ-loop
-sub-agree c =
-    let pre = c .before .before .before .before .before .before .before .before .before .pre in
-    omega (arith, latch-place _ _ _ _ _ (pre .0) _ (c .before .loop-test .taken))
+sub-agree c = omega (arith, latch-place _ _ _ _ _ (c .before .before .before .before .before .before .before .before .before .pre .0) _ (c .before .loop-test .taken))
 
 part-agree-start : tie.Need-part-agree-start Inv-loop μ-loop
-part-agree-start c =
-    let pre = c .before .before .before .before .before .before .before .before .before .pre in
-    omega (arith, latch-place _ _ _ _ _ (pre .0) _ (c .before .loop-test .taken))
+part-agree-start c = omega (arith, latch-place _ _ _ _ _ (c .before .before .before .before .before .before .before .before .before .pre .0) _ (c .before .loop-test .taken))
 
 part-agree-end : tie.Need-part-agree-end Inv-loop μ-loop
-part-agree-end c =
-    let pre = c .before .before .before .before .before .before .before .before .before .pre in
-    omega (arith, latch-place _ _ _ _ _ (pre .0) _ (c .before .loop-test .taken))
+part-agree-end c = omega (arith, latch-place _ _ _ _ _ (c .before .before .before .before .before .before .before .before .before .pre .0) _ (c .before .loop-test .taken))
 
 agree-requires : tie.Need-agree-requires Inv-loop μ-loop
 agree-requires c κs =
