@@ -18,5 +18,5 @@ use Rattle.rows.specs.Rows.{item, said, row, rows}
 use Rattle.report.specs.Report.{closing, refusing, closedReport, ended, runReport, reported, reportOf}
 
 pub shown : reportOf (bytes "aag 3 0 2 1 1/2 4/4 2 1/6/6 4 2/") ≡ bytes "cubes 2 back 0 settled 0/lamp 0 never/latch 0 -/latch 1 -/"
-unfolding bytes refusal ceilingTests several kinds rowTests decimal digits isDigit mayGrow readOn readNumber strip prepend splitLine after tested further onward fits owns words lineTests ends inFront readLines thenEnds header countsOf headerTests readText tabulate adjust code both inverse ternary alike allows subsumes blank agree merged knownFields signed value pass settle readings circuitOf gatesFrom hold differing due switchesUnknown nextCube lampsIn startField start reached widened store stage cubeAt search back run merge verdict settled item said row rows closing refusing closedReport ended runReport reported reportOf flatMap zipWith cubeBytes stepped mergeFrom readings readEnded resetWord next lamps resets
+unfolding bytes refusal ceilingTests several kinds rowTests decimal digits isDigit mayGrow readOn readNumber strip prepend splitLine after tested further onward fits owns words lineTests ends inFront readLines thenEnds header countsOf headerTests readText tabulate adjust code both inverse ternary alike allows subsumes blank agree merged knownFields signed value pass settle readings circuitOf gatesFrom hold differing due switchesUnknown nextCube lampsIn startField start reached widened store stage cubeAt search back run merge verdict settled item said row rows closing refusing closedReport ended runReport reported reportOf flatMap zipWith cubeBytes stepped mergeFrom readEnded resetWord resets
 shown = refl

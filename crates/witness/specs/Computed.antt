@@ -16,5 +16,5 @@ use Rattle.witness.specs.Answer.{answerFrom, answerIn}
 use Rattle.witness.specs.Case.{Case, same, holds, holdAll, refusedWith, ranAs, passes, allPass}
 
 unfoldable pub computed : List Case → Bool
-unfolding outcomeOf bytes tabulate adjust over code both inverse ternary alike allows subsumes blank agree merged knownFields byteOf byteAt pack signed value pass settle readings allHold leftBy width tableTests circuitOf gatesFrom wordTests circuitTests boardTests hold differing due switchesUnknown nextCube lampsIn startField start reached widened store stage cubeAt search back run merge verdict settled flatMap zipWith roomIn storedCubes backTo outcomeNumber runResultTests runTests refusedBy circuitIn outcomeIn answerFrom answerIn same holds holdAll refusedWith ranAs passes allPass packCubes packCube cubeBytes stepped mergeFrom readings next lamps resets
+unfolding outcomeOf bytes tabulate adjust over code both inverse ternary alike allows subsumes blank agree merged knownFields byteOf byteAt pack signed value pass settle readings allHold leftBy width tableTests circuitOf gatesFrom wordTests circuitTests boardTests hold differing due switchesUnknown nextCube lampsIn startField start reached widened store stage cubeAt search back run merge verdict settled flatMap zipWith roomIn storedCubes backTo outcomeNumber runResultTests runTests refusedBy circuitIn outcomeIn answerFrom answerIn same holds holdAll refusedWith ranAs passes allPass packCubes packCube cubeBytes stepped mergeFrom resets
 computed cases = allPass cases
