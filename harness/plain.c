@@ -1,4 +1,4 @@
-/* The four calls in plain C (plain.h). Quotations are from document 01. */
+/* The four calls in plain C (plain.h). Numbers in brackets are sections of docs/SPECIFICATION.md. */
 #include "plain.h"
 
 #include <stdbool.h>

@@ -1,4 +1,4 @@
--- The table of the bench circuits: every result that the contracts of reader and run allow is as document 01 says. Assumes nothing.
+-- The table of the bench circuits: every result that the contracts of reader and run allow is as the specification (9) says. Assumes nothing.
 use mathlib.Core.Path.{refl}
 use Rattle.witness.specs.Case.{MeantAll}
 use Rattle.witness.specs.Computed.{computed}

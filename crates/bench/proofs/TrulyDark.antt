@@ -1,4 +1,4 @@
--- K's lamp is "open though truly dark" (document 01, Bench circuits): the table has its verdict, and here it is dark at every tick,
+-- K's lamp is "open though truly dark" (specification, 9): the table has its verdict, and here it is dark at every tick,
 -- whatever the switch does. Assumes nothing.
 use mathlib.Core.Path.{_≡_, refl, ap, ap₂, _∙_}
 use mathlib.Core.Bool.{Bool, false}

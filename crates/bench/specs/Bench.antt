@@ -1,4 +1,4 @@
--- The bench circuits of document 01 as one table of cases, each a text with what is said of its reading and its run. Assumes nothing.
+-- The bench circuits (specification, 9) as one table of cases, each a text with what is said of its reading and its run. Assumes nothing.
 use mathlib.Core.List.{List, [], _∷_}
 use Prim.Native.Nat.{ℕ}
 use Prim.Native.String.{String}

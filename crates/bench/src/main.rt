@@ -1,4 +1,4 @@
-// The bench circuits of document 01: each text is read and run by the code, and its line shows what came of it.
+// The bench circuits (specification, 9): each text is read and run by the code, and its line shows what came of it.
 use cubes::RunAnswer;
 use libc::STDOUT_FILENO;
 

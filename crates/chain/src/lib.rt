@@ -1,4 +1,4 @@
-// The cubes of a run, its n and its j: widening, closing, room (document 01, Run).
+// The cubes of a run, its n and its j: widening, closing, room (specification, 5.2 to 5.5).
 use circuit::Counts;
 use stored::LONGEST_CUBE;
 ghost use mathlib.Core.Path.{_≡_};
@@ -13,7 +13,7 @@ ghost use Rattle.cubes.specs.HeldInCode.{differingByte};
 ghost use Rattle.stored.specs.CubesInCode.{first};
 ghost use Rattle.chain.specs.ChainInCode.{heldAfter, widenedBytes, Advanced, Followable, Chained};
 
-// "If w is not 0 and divides k"
+// If w is not 0 and divides k.
 fn due(w: usize, k: usize) -> bool
     ensures { λ r. ⌜ r ≡ isDue w k ⌝ }
 {
@@ -67,7 +67,7 @@ fn held_after(
     widen(held, cubes, at, b, len)
 }
 
-// "how many cubes are stored, which latches are held unknown"
+// How many cubes are stored, which latches are held unknown.
 pub struct Progress {
     pub count: usize,
     pub held: [u8; LONGEST_CUBE],

@@ -1,4 +1,4 @@
--- Words beyond a circuit's table are ignored (document 01, Circuit). Assumes nothing.
+-- Words beyond a circuit's table are ignored (specification, 3.6). Assumes nothing.
 use mathlib.Core.Path.{_≡_, ap, ap₂, _∙_}
 use mathlib.Core.List.{List}
 use Prim.Native.Nat.{ℕ, _+_, _*_, _<_}

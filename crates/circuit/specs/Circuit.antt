@@ -1,4 +1,4 @@
--- A circuit (document 01, Circuit), and one pass over its gates (Tick), in either logic. Assumes nothing.
+-- A circuit (specification, 3.1 to 3.3), and one pass over its gates (Tick), in either logic. Assumes nothing.
 use mathlib.Core.List.{List, [], _∷_, _++_, map}
 use Prim.Native.Nat.{ℕ, zero, suc, _/_, _%_}
 use lib.ListN.{getD}

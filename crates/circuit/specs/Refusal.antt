@@ -1,4 +1,4 @@
--- The order of a call's refusals: a list of tests with their numbers, laid beside document 01's. Assumes nothing.
+-- The order of a call's refusals: a list of tests with their numbers, laid beside the specification's (3.4, 7.2). Assumes nothing.
 use mathlib.Core.Path.{_≡_}
 use mathlib.Core.Bool.{Bool, true, false, _&&_}
 use mathlib.Core.List.{List, [], _∷_}

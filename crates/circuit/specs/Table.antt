@@ -1,4 +1,4 @@
--- Counts and the table of words (document 01, Circuit), the rules for the words, and the circuit that they make. Assumes nothing.
+-- Counts and the table of words (specification, 3.5 to 3.7), the rules for the words, and the circuit that they make. Assumes nothing.
 use mathlib.Core.List.{List, [], _∷_, _++_}
 use Prim.Native.Nat.{ℕ, zero, suc, _+_, _*_}
 use lib.Dec.{leb, ltb}

@@ -1,4 +1,4 @@
-// The counts of a circuit and their ceilings; specs and proofs: the circuit, its table of words, and their laws (document 01, Circuit).
+// The counts of a circuit and their ceilings; specs and proofs: the circuit, its table of words, and their laws (specification, 3).
 ghost use mathlib.Core.Path.{_≡_};
 ghost use Rattle.circuit.specs.Table.{literals as literalLines, literalsAt, gatesAt};
 ghost use Rattle.circuit.specs.RulesInCode.{Bounded};
@@ -12,7 +12,7 @@ pub struct Counts {
     pub gates: usize,
 }
 
-// "Ceilings: I 256, L 512, O 64, A 3,327"
+// Ceilings: I 256, L 512, O 64, A 3,327.
 pub const MOST_INPUTS: usize = 256;
 
 pub const MOST_LATCHES: usize = 512;

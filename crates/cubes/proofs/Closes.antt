@@ -85,7 +85,7 @@ run-closes c w room pos enough = go (run c w room) (ran c w room)
     go (stops n j) r = record { n = n; j = j; is-closed = refl; few = few-cubes c w pos r }
     go full r = absurd (omega (arith, still-open c w pos r))
 
--- document 01's bound is never less
+-- the specification's bound is never less
 pub most-within : (w latches : ℕ) → 1 ≤ w → mostCubes w latches ≤ w * latches + 1
 unfolding mostCubes
 most-within zero latches pos = absurd (omega arith)

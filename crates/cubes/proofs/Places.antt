@@ -10,7 +10,7 @@ pub place-early : (n j t : ℕ) → j < n → t < n → place n j t ≡ t
 unfolding place
 place-early n j t below early = let small : t - j < n - j = omega arith in rw (mod-eq-of-lt small) (omega arith)
 
--- from tick j on; document 01 says it of the ticks from n on
+-- from tick j on; the specification (5.10) says it of the ticks from n on
 pub place-late : (n j t : ℕ) → j ≤ t → place n j t ≡ j + (t - j) % (n - j)
 unfolding place
 place-late n j t late = omega arith

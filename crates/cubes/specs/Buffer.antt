@@ -1,4 +1,4 @@
--- A cube in the buffer (document 01, Run), and where it stands. What its bytes are is opened in proofs/StoredCube alone. Assumes nothing.
+-- A cube in the buffer (specification, 5.5), and where it stands. What its bytes are is opened in proofs/StoredCube alone. Assumes nothing.
 use mathlib.Core.List.{List, flatMap}
 use Prim.Native.Nat.{ℕ, _*_}
 use lib.ListN.{drop}

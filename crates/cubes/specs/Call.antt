@@ -1,4 +1,4 @@
--- The public run (document 01, Run): its refusals in order, what it answers, and what it leaves. Assumes nothing.
+-- The public run (specification, 5.5 and 5.8): its refusals in order, what it answers, and what it leaves. Assumes nothing.
 use mathlib.Core.Path.{_≡_}
 use mathlib.Core.List.{List, [], _∷_, _++_}
 use Prim.Native.Nat.{ℕ, _/_}

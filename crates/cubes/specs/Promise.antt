@@ -1,4 +1,4 @@
--- What a run promises of every execution (document 01, demand 3), over the answers and the bytes that the call leaves. Assumes nothing.
+-- What a run promises of every execution (specification, 5.10), over the answers and the bytes that the call leaves. Assumes nothing.
 use mathlib.Core.Path.{_≡_}
 use mathlib.Core.Bool.{Bool, false}
 use mathlib.Core.List.{List}

@@ -1,4 +1,4 @@
--- The run (document 01, Run): cubes from the resets on, until one falls inside a stored one. Assumes nothing.
+-- The run (specification, 5.1 to 5.7): cubes from the resets on, until one falls inside a stored one. Assumes nothing.
 use mathlib.Core.Bool.{Bool, true, false, not, _||_}
 use mathlib.Core.List.{List, map, zipWith}
 use Prim.Native.Nat.{ℕ, zero, suc, _+_, _-_, _%_}

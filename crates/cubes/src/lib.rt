@@ -1,6 +1,6 @@
-// What the run answers; specs and proofs: the run, what it promises, and their laws (document 01, Run).
+// What the run answers; specs and proofs: the run, what it promises, and their laws (specification, 5).
 
-// "The call answers n, j and s, the number of settled latches."
+// The call answers n, j and s, the number of settled latches.
 #[repr(C)]
 pub struct RunAnswer {
     pub number: u32,

@@ -1,4 +1,4 @@
-// Verdict, settled record and s, from the cubes in a buffer (document 01, Run).
+// Verdict, settled record and s, from the cubes in a buffer (specification, 5.6 and 5.7).
 use circuit::Counts;
 use pass::Values;
 ghost use mathlib.Core.Path.{_≡_};
@@ -31,7 +31,7 @@ fn lamps_at(
     pass::store(values, table, first, 1, counts.lamps, out);
 }
 
-// "per lamp 01 (never) if 0 in all n cubes, 10 (always) if 1 in all, else 00 (open)"
+// Per lamp 01 (never) if 0 in all n cubes, 10 (always) if 1 in all, else 00 (open).
 fn judge_lamps(
     counts: Counts,
     table: &[u16],
@@ -62,7 +62,7 @@ fn copy_cube(cubes: &[u8], at: usize, len: usize, out: &mut [u8])
     }
 }
 
-// "per latch the known value shared by cubes j to n − 1, else 00"
+// Per latch the known value shared by cubes j to n − 1, else 00.
 fn settle_latches(latches: usize, cubes: &[u8], len: usize, n: usize, j: usize, settled: &mut [u8])
     requires { ⌜ Settleable latches len n j (now cubes) × (bytesFor latches ≤ length (now settled)) ⌝ }
     ensures { λ _. ⌜ now (settled .exit) ≡ over (pack (settledFrom latches (now (cubes .entry)) n j)) (now (settled .entry)) ⌝ }

@@ -1,4 +1,4 @@
-// Numbers and lines of a text (document 01, Text).
+// Numbers and lines of a text (specification, 4.1 and 4.2).
 ghost use mathlib.Core.Path.{_≡_};
 ghost use mathlib.Core.List.{List};
 ghost use Prim.Native.Nat.{ℕ, _≤_, _<_};
@@ -54,7 +54,7 @@ fn digit_at(text: &[u8], at: usize) -> usize
     (b - b'0') as usize
 }
 
-// "one to five digits and no leading zero except `0` itself": another digit may follow.
+// One to five digits and no leading zero except `0` itself: another digit may follow.
 fn may_grow(value: usize) -> bool
     ensures { λ r. ⌜ r ≡ mayGrow value ⌝ }
 {
@@ -85,7 +85,7 @@ fn number(text: &[u8], at: usize) -> ReadNumber
     }
 }
 
-// "each line ends in byte 10": the length of an ending at a position, and 0 where there is none.
+// Each line ends in byte 10: the length of an ending at a position, and 0 where there is none.
 pub fn ending_at(text: &[u8], at: usize, ending: Ending) -> usize
     requires { ⌜ at ≤ length (now text) ⌝ }
     ensures { λ r. ⌜ EndingAt (endingBytes ending) (now (text .entry)) at r ⌝ }
@@ -99,7 +99,7 @@ pub fn ending_at(text: &[u8], at: usize, ending: Ending) -> usize
     0
 }
 
-// "one space between"
+// One space between.
 fn number_in_line(text: &[u8], at: usize, ending: Ending) -> InLine
     ensures { λ r. ⌜ FoundInLine (endingBytes ending) (now (text .entry)) (from (now (text .entry)) at) r ⌝ }
 {

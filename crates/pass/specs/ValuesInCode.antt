@@ -1,4 +1,4 @@
--- The working table of a pass (document 01, Tick), as the code holds it: 4,096 values, one for each variable. Assumes nothing.
+-- The working table of a pass (specification, 3.3), as the code holds it: 4,096 values, one for each variable. Assumes nothing.
 use mathlib.Core.Path.{_≡_}
 use mathlib.Core.List.{List, _∷_, _++_, map}
 use Prim.Native.Nat.{ℕ, _+_, _*_, _<_, _≤_}

@@ -1,4 +1,4 @@
-// One pass over the gates, through a working table of values (document 01, Tick).
+// One pass over the gates, through a working table of values (specification, 3.3).
 use circuit::Counts;
 ghost use mathlib.Core.Path.{_≡_};
 ghost use mathlib.Core.List.{_++_};
@@ -13,7 +13,7 @@ ghost use Rattle.circuit.specs.Table.{circuitOf};
 ghost use Rattle.circuit.specs.RulesInCode.{Legal};
 ghost use Rattle.pass.specs.ValuesInCode.{valuesOf, freshValues, Working, Holding, Begins, signTable, Gateable, Readable, literalValues, passed};
 
-// "a working table of 4,096 values"
+// A working table of 4,096 values.
 pub type Values = [u8; 4096];
 
 // It is made and reached through these three functions alone.
@@ -39,7 +39,7 @@ fn put_variable(values: &mut Values, v: usize, x: u8)
     values[v] = x;
 }
 
-// A value as it is, and inverted: "Inverting swaps 0 and 1 and keeps X."
+// A value as it is, and inverted: "Inverting swaps 0 and 1 and keeps X.".
 const SIGN: [[u8; 3]; 2] = [[0, 1, 2], [0, 2, 1]];
 
 // As the gate table, made once and lent to each reading.
@@ -49,7 +49,7 @@ fn sign_table() -> [[u8; 3]; 2]
     SIGN
 }
 
-// "A literal is 2 × variable, plus 1 if inverted."
+// A literal is 2 × variable, plus 1 if inverted.
 fn literal(signs: &[[u8; 3]; 2], values: &Values, x: u16) -> u8
     requires { ⌜ (now signs ≡ signTable) × (x < 8192) × Working (now values) ⌝ }
     ensures { λ r. ⌜ r ≡ code (value ternary (valuesOf (now (values .entry))) x) ⌝ }
@@ -69,7 +69,7 @@ fn gate(answers: &[[u8; 3]; 3], signs: &[[u8; 3]; 2], values: &Values, left: u16
     )
 }
 
-// "Gates are taken in order": those from word `at` on, the first of them variable `first`.
+// Gates are taken in order: those from word `at` on, the first of them variable `first`.
 fn gates(table: &[u16], at: usize, first: usize, count: usize, values: &mut Values)
     requires { ⌜ Gateable (now table) at first count × Working (now values) ⌝ }
     ensures { λ _. ⌜ Holding (now (values .exit)) (passed (now (table .entry)) at first count (valuesOf (now (values .entry)))) ⌝ }

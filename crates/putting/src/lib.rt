@@ -1,4 +1,4 @@
-// Bytes and numbers put into a buffer (document 01, Text). Every `put` answers the position behind the bytes that it writes.
+// Bytes and numbers put into a buffer (specification, 4.1 and 4.2). Every `put` answers the position behind the bytes that it writes.
 use circuit::Counts;
 use text::GATE_LINE;
 use text::INPUT_LINE;
@@ -67,7 +67,7 @@ fn put_five(text: &mut [u8], at: usize, n: usize) -> usize
     put_digit(text, last, n % 10)
 }
 
-// "no leading zero except `0` itself". A text's numbers have at most five digits: they are put without a loop or a recursion.
+// No leading zero except `0` itself. A text's numbers have at most five digits: they are put without a loop or a recursion.
 fn put_number(text: &mut [u8], at: usize, n: usize) -> usize
     requires { ⌜ (n < 100000) × (at + length (decimal n) ≤ length (now text)) ⌝ }
     ensures { λ r. ⌜ Put (now (text .entry)) at (decimal n) (now (text .exit)) r ⌝ }

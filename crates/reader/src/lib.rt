@@ -1,4 +1,4 @@
-// The reader of a circuit's text (document 01, Text).
+// The reader of a circuit's text (specification, 4.9).
 use circuit::Counts;
 use lines::Ending;
 use lines::ReadLine;
@@ -22,7 +22,7 @@ ghost use Rattle.lines.specs.LinesInCode.{from, endingBytes, Shape, numbersOf, 
 ghost use Rattle.reader.specs.ReaderInCode.{opened, LinesJudged, kindsThen, TextJudged, pairOf, WordsFit, bodyWords, stand, latchesOn, lampsOn, gatesOn, Fillable, Filled};
 ghost use Rattle.text.specs.KindsInCode.{coded};
 
-// "At most 60,000 bytes."
+// At most 60,000 bytes.
 const MOST_TEXT: usize = 60000;
 
 fn opens(text: &[u8]) -> bool
@@ -215,7 +215,7 @@ fn judge_lines(
     }
 }
 
-// "the end of the text, or a line that is just `c`"
+// The end of the text, or a line that is just `c`.
 fn ended(text: &[u8], at: usize, ending: Ending) -> bool
     requires { ⌜ at ≤ length (now text) ⌝ }
     ensures { λ r. ⌜ r ≡ ends (endingBytes ending) (from (now (text .entry)) at) ⌝ }
@@ -229,7 +229,7 @@ fn ended(text: &[u8], at: usize, ending: Ending) -> bool
     lines::ending_at(text, at + 1, ending) != 0
 }
 
-// "one line for each input, latch, lamp and gate, in that order"
+// One line for each input, latch, lamp and gate, in that order.
 fn judge_body(text: &[u8], at: usize, ending: Ending, counts: Counts) -> Judged
     requires { ⌜ Bounded counts × (at ≤ length (now text)) ⌝ }
     ensures { λ r. ⌜ LinesJudged (endingBytes ending) (now (text .entry)) at (lineTests (top counts)) (kindsThen counts) r ⌝ }
@@ -282,7 +282,7 @@ enum Judgement {
     Body(Counts, usize),
 }
 
-// "Reader: 1, 2, 3, then line by line (4, 5, 6, then 7 or 8), 9": once over the text, and nothing is written.
+// Reader: 1, 2, 3, then line by line (4, 5, 6, then 7 or 8), 9: once over the text, and nothing is written.
 fn judge(text: &[u8], ending: Ending) -> Judgement
     ensures { λ r. ⌜ TextJudged (endingBytes ending) (now (text .entry)) r ⌝ }
 {
@@ -327,7 +327,7 @@ fn skip_inputs(text: &[u8], at: usize, ending: Ending, counts: Counts) -> usize
     next
 }
 
-// "for each latch its next literal and its reset"; the position behind the lines.
+// For each latch its next literal and its reset; the position behind the lines.
 fn fill_latches(text: &[u8], at: usize, ending: Ending, counts: Counts, table: &mut [u16]) -> usize
     requires { ⌜ Fillable (endingBytes ending) (now text) counts (stand (latchesOn counts) at 0 (now table)) ⌝ }
     ensures { λ r. ⌜ Filled (endingBytes ending) (now (text .entry)) counts (stand (latchesOn counts) at 0 (now (table .entry))) (stand (lampsOn counts) r (literalsAt counts) (now (table .exit))) ⌝ }
@@ -341,7 +341,7 @@ fn fill_latches(text: &[u8], at: usize, ending: Ending, counts: Counts, table: &
     next
 }
 
-// "then the lamp literals"; the position behind the lines.
+// Then the lamp literals; the position behind the lines.
 fn fill_lamps(text: &[u8], at: usize, ending: Ending, counts: Counts, table: &mut [u16]) -> usize
     requires { ⌜ Fillable (endingBytes ending) (now text) counts (stand (lampsOn counts) at (literalsAt counts) (now table)) ⌝ }
     ensures { λ r. ⌜ Filled (endingBytes ending) (now (text .entry)) counts (stand (lampsOn counts) at (literalsAt counts) (now (table .entry))) (stand (gatesOn counts) r (gatesAt counts) (now (table .exit))) ⌝ }
@@ -356,7 +356,7 @@ fn fill_lamps(text: &[u8], at: usize, ending: Ending, counts: Counts, table: &mu
     next
 }
 
-// "then two operands a gate"; the position behind the lines.
+// Then two operands a gate; the position behind the lines.
 fn fill_gates(text: &[u8], at: usize, ending: Ending, counts: Counts, table: &mut [u16]) -> usize
     requires { ⌜ Fillable (endingBytes ending) (now text) counts (stand (gatesOn counts) at (gatesAt counts) (now table)) ⌝ }
     ensures { λ r. ⌜ Filled (endingBytes ending) (now (text .entry)) counts (stand (gatesOn counts) at (gatesAt counts) (now (table .entry))) (stand [] r (gatesAt counts + 2 * counts .gates) (now (table .exit))) ⌝ }
@@ -407,7 +407,7 @@ fn refused(number: u32) -> ReadAnswer
 pub fn read(text: &[u8], table: &mut [u16]) -> ReadAnswer
     ensures { λ r. ⌜ Reading (now (text .entry)) (now (table .entry)) (r .number) (r .counts) (now (table .exit)) ⌝ }
 {
-    let ending = Ending::Newline; // "each line ends in byte 10"
+    let ending = Ending::Newline; // each line ends in byte 10
     let judgement = judge(text, ending);
     match judgement {
         Judgement::Refused(number) => {

@@ -1,4 +1,4 @@
--- The report that document 01 shows, for S: computed from the text to the bytes. Assumes nothing.
+-- The report that the specification (6) shows, for S: computed from the text to the bytes. Assumes nothing.
 use mathlib.Core.Path.{_≡_, refl}
 use mathlib.Core.List.{flatMap, zipWith}
 use Rattle.three.specs.Lists.{tabulate, adjust}

@@ -1,4 +1,4 @@
--- The report (document 01, the report program): what is printed for the bytes on standard input. In a quoted text `/` stands for byte 10. Assumes nothing.
+-- The report (specification, 6): what is printed for the bytes on standard input. In a quoted text `/` stands for byte 10. Assumes nothing.
 use mathlib.Core.Path.{_≡_}
 use mathlib.Core.List.{List, _++_}
 use Prim.Native.Nat.{ℕ, _/_, _≤_}

@@ -1,4 +1,4 @@
-// The report program (document 01): a circuit's text on standard input, the report on standard output.
+// The report program (specification, 6): a circuit's text on standard input, the report on standard output.
 use circuit::Counts;
 use cubes::RunAnswer;
 use libc::STDERR_FILENO;
@@ -14,7 +14,7 @@ ghost use Rattle.rows.specs.declared.Row.{Row};
 ghost use Rattle.rows.specs.Rows.{rows};
 ghost use Rattle.report.specs.Report.{closing, refusing, Reported};
 
-// "takes w = 16 and a cube buffer of 65,536 bytes"
+// Takes w = 16 and a cube buffer of 65,536 bytes.
 const INTERVAL: usize = 16;
 
 const CUBE_BYTES: usize = 65536;
@@ -34,7 +34,7 @@ const MOST_SKIPPED: usize = 16777216;
 // What `io::buffer` holds.
 const PIECE: usize = 4096;
 
-// "one line on closure with n, j, s"
+// One line on closure with n, j, s.
 fn put_closing(out: &mut [u8], n: usize, j: usize, s: usize) -> usize
     requires { ⌜ 100 ≤ length (now out) ⌝ }
     ensures { λ r. ⌜ Put (now (out .entry)) 0 (closing n j s) (now (out .exit)) r × (r ≤ 100) ⌝ }
@@ -45,7 +45,7 @@ fn put_closing(out: &mut [u8], n: usize, j: usize, s: usize) -> usize
     rows::put_bytes(out, end, b"\n")
 }
 
-// "On a refusal its only line is `refused` and the number."
+// On a refusal its only line is `refused` and the number.
 fn put_refusal(out: &mut [u8], number: u32) -> usize
     requires { ⌜ 100 ≤ length (now out) ⌝ }
     ensures { λ r. ⌜ Put (now (out .entry)) 0 (refusing number) (now (out .exit)) r × (r ≤ length (now (out .entry))) ⌝ }

@@ -1,4 +1,4 @@
--- The rows of a report (document 01, the report program): a line for each lamp and each latch. In a quoted text `/` stands for byte 10. Assumes nothing.
+-- The rows of a report (specification, 6): a line for each lamp and each latch. In a quoted text `/` stands for byte 10. Assumes nothing.
 use mathlib.Core.List.{List, [], _∷_, _++_}
 use Prim.Native.Nat.{ℕ, suc, _/_}
 use Rattle.three.specs.Value.{Three, unknown, low, high}

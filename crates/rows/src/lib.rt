@@ -1,4 +1,4 @@
-// The rows of a report, put into a buffer (document 01, the report program).
+// The rows of a report, put into a buffer (specification, 6).
 ghost use Prim.Native.Nat.{_+_, _*_, _≤_, _<_};
 ghost use lib.ListN.{length};
 ghost use Rattle.three.specs.Value.{decode};
@@ -59,7 +59,7 @@ fn put_said(out: &mut [u8], at: usize, field: u8, off: &[u8], on: &[u8], either:
     put_bytes(out, at, on)
 }
 
-// "each lamp, numbered from 0, with never, always or open; then each latch, numbered from 0, with its settled value, 0 or 1, or `-`": the line of number i.
+// Each lamp, numbered from 0, with never, always or open; then each latch, numbered from 0, with its settled value, 0 or 1, or `-`: the line of number i.
 fn put_row(out: &mut [u8], at: usize, row: Row, i: usize, field: u8) -> usize
     requires { ⌜ at + 34 ≤ length (now out) ⌝ }
     ensures { λ r. ⌜ Put (now (out .entry)) at (rowText row i (decode field)) (now (out .exit)) r × (r ≤ at + 34) ⌝ }

@@ -1,4 +1,4 @@
-// The public run (document 01, Run).
+// The public run (specification, 5.8).
 use circuit::Counts;
 use cubes::RunAnswer;
 ghost use mathlib.Core.Path.{_≡_};
@@ -8,9 +8,9 @@ ghost use Rattle.cubes.specs.Call.{runTests, Runs};
 ghost use Rattle.cubes.specs.Promise.{Promises};
 ghost use Rattle.circuit.specs.Refusal.{refusal};
 
-// "Interval w is 0 to 1,000"
+// Interval w is 0 to 1,000.
 const MOST_INTERVAL: usize = 1000;
-// "cube buffer .. over 65,536 bytes"
+// Cube buffer .. over 65,536 bytes.
 const MOST_CUBE_BYTES: usize = 65536;
 
 // The refusals of a run before 15, in order, for buffers of these lengths; 0 for none.
@@ -46,7 +46,7 @@ fn run_refusal(
     0
 }
 
-// "Run. Input: counts, table, w, cube buffer, verdict and settled records." Nothing is relied on: any numbers and buffers may be handed in.
+// The public run. Nothing is relied on: any numbers and buffers may be handed in.
 pub fn run(
     counts: Counts,
     table: &[u16],

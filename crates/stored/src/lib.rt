@@ -1,4 +1,4 @@
-// Cubes in a buffer: cube 0, the next state of a stored cube, the search (document 01, Run).
+// Cubes in a buffer: cube 0, the next state of a stored cube, the search (specification, 5.1 to 5.3).
 use circuit::Counts;
 use pass::Values;
 ghost use mathlib.Core.Path.{_≡_};
@@ -51,7 +51,7 @@ fn start_byte(table: &[u16], count: usize, k: usize) -> u8
     three::byte_of(a, b, c, d)
 }
 
-// "Cube 0 is the resets."
+// Cube 0 is the resets.
 pub fn store_start(table: &[u16], count: usize, cubes: &mut [u8])
     requires { ⌜ (2 * count ≤ length (now table)) × (count ≤ 512) × (cubeBytes count ≤ length (now cubes)) ⌝ }
     ensures { λ _. ⌜ now (cubes .exit) ≡ over (packCube (startFields (now (table .entry)) count)) (now (cubes .entry)) ⌝ }
@@ -105,7 +105,7 @@ pub fn reach(
     store_kept(&next, held, cube_bytes(counts.latches), b, 0);
 }
 
-// "The search is for the first stored cube that subsumes b": its number, or n where none of the n does.
+// The search is for the first stored cube that subsumes b: its number, or n where none of the n does.
 pub fn search(cubes: &[u8], len: usize, n: usize, b: &[u8]) -> usize
     requires { ⌜ (n * len ≤ length (now cubes)) × (len ≤ length (now b)) ⌝ }
     ensures { λ r. ⌜ r ≡ first n (λ k. coversFrom len (now (cubes .entry)) (now (b .entry)) (k * len)) ⌝ }

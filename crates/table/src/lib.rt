@@ -1,4 +1,4 @@
-// The refusals of a table of words: 3, 10 and 11 (document 01, Circuit).
+// The refusals of a table of words: 3, 10 and 11 (specification, 3.5 to 3.7).
 use circuit::Counts;
 use circuit::MOST_GATES;
 use circuit::MOST_INPUTS;
@@ -71,7 +71,7 @@ fn gates_kept(table: &[u16], at: usize, count: usize, own: usize) -> bool
     true
 }
 
-// "It takes 2 × L + O + 2 × A words."
+// It takes 2 × L + O + 2 × A words.
 pub fn table_length(counts: Counts) -> usize
     requires { ⌜ Bounded counts ⌝ }
     ensures { λ r. ⌜ r ≡ tableLength counts ⌝ }

@@ -1,4 +1,4 @@
--- A written text never exceeds 57,122 bytes (document 01, Text), and one has as many: each line has its longest numbers,
+-- A written text never exceeds 57,122 bytes (specification, 4.7), and one has as many: each line has its longest numbers,
 -- and more or larger own literals make a body no shorter. Assumes nothing.
 use mathlib.Core.Path.{_≡_, refl}
 use mathlib.Core.List.{List, [], _∷_, _++_}

@@ -1,4 +1,4 @@
--- Any two results that the contract of a call allows are equal (document 01, How tight the contracts are). Assumes nothing.
+-- Any two results that the contract of a call allows are equal (specification, 8.2). Assumes nothing.
 use mathlib.Core.Path.{_≡_, sym, _∙_}
 use mathlib.Core.List.{List}
 use Prim.Native.Nat.{ℕ}

@@ -1,4 +1,4 @@
--- A line as it is spelled: its kind, its words and its numbers, and that the reader takes exactly such a line (document 01, Text). Assumes nothing.
+-- A line as it is spelled: its kind, its words and its numbers, and that the reader takes exactly such a line (specification, 4). Assumes nothing.
 use mathlib.Core.Path.{_≡_, refl, sym, _∙_, subst⁻¹}
 use mathlib.Core.Bool.{true}
 use mathlib.Core.List.{List, [], _∷_, _++_}

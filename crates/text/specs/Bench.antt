@@ -1,4 +1,4 @@
--- The texts of document 01, Bench circuits, and what each is read as; crate bench goes on from there to the run. Assumes nothing.
+-- The texts of the bench circuits (specification, 9), and what each is read as; crate bench goes on from there to the run. Assumes nothing.
 use mathlib.Core.Path.{_≡_, refl}
 use mathlib.Core.Bool.{cond}
 use mathlib.Core.List.{List, [], _∷_, map}

@@ -1,4 +1,4 @@
--- The reader and the writer (document 01, Numbers a caller may get back): their refusals in order, and what they leave. Assumes nothing.
+-- The reader and the writer (specification, 4.9 and 4.10): their refusals in order, and what they leave. Assumes nothing.
 use mathlib.Core.Path.{_≡_}
 use mathlib.Core.List.{List, [], _∷_, _++_}
 use Prim.Native.Nat.{ℕ}

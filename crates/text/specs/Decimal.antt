@@ -1,4 +1,4 @@
--- Numbers in a text (document 01, Text): how one is written, and how one is read.
+-- Numbers in a text (specification, 4.1): how one is written, and how one is read.
 -- Decided here: a sixth digit, or a digit behind a leading zero, makes the number and its line ill-formed. Assumes nothing.
 use mathlib.Core.Bool.{Bool, true, false, _&&_}
 use mathlib.Core.List.{List, [], _∷_, _++_}

@@ -1,4 +1,4 @@
--- Lines (document 01, Text): one or more numbers, one space between, and the ending. Assumes nothing.
+-- Lines (specification, 4.2): one or more numbers, one space between, and the ending. Assumes nothing.
 use mathlib.Core.Bool.{true, false}
 use mathlib.Core.List.{List, [], _∷_, _++_}
 use Prim.Native.Nat.{ℕ, zero, suc}

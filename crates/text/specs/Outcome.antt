@@ -1,4 +1,4 @@
--- The outcome of reading (document 01, Numbers a caller may get back): a value, or the number of a refusal. Assumes nothing.
+-- The outcome of reading (specification, 4.3): a value, or the number of a refusal. Assumes nothing.
 use mathlib.Core.List.{List}
 use Prim.Native.Nat.{ℕ, zero, suc}
 use Rattle.circuit.specs.Refusal.{Test, refusal}

@@ -1,4 +1,4 @@
--- The text of a circuit (document 01, Text): how it is written, and how it is read or refused with 1 to 9.
+-- The text of a circuit (specification, 4.4 to 4.7): how it is written, and how it is read or refused with 1 to 9.
 -- Decided here: a last `c` without the ending is no line, and so is 9. Assumes nothing.
 use mathlib.Core.Bool.{Bool, true, false, _&&_}
 use mathlib.Core.List.{List, [], _∷_, _++_}

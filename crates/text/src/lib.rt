@@ -1,6 +1,6 @@
-// What the reader and the writer share of the text of a circuit (document 01, Text); the definitions and their laws stand beside it.
+// What the reader and the writer share of the text of a circuit (specification, 4); the definitions and their laws stand beside it.
 
-// "The file opens with the four bytes `aag` and a space"
+// The file opens with the four bytes `aag` and a space.
 pub const MAGIC: [u8; 4] = *b"aag ";
 
 // The kinds of line that a text has, in the order of the text.

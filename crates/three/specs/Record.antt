@@ -1,4 +1,4 @@
--- Records (document 01): two bits a field, field 0 in the most significant bits of byte 0. Assumes nothing.
+-- Records (specification, 2.7 and 2.8): two bits a field, field 0 in the most significant bits of byte 0. Assumes nothing.
 use mathlib.Core.Path.{_≡_}
 use mathlib.Core.Bool.{Bool, true, false, not, _&&_, _||_, cond}
 use mathlib.Core.List.{List, [], _∷_}

@@ -1,4 +1,4 @@
--- The values 0, 1 and X (document 01, Tick), and the two logics that a circuit is read in. Assumes nothing.
+-- The values 0, 1 and X (specification, 2.1 to 2.3), and the two logics that a circuit is read in. Assumes nothing.
 use mathlib.Core.Bool.{Bool, true, false, not, _&&_}
 use mathlib.Core.List.{List}
 use Prim.Native.Nat.{ℕ, zero, suc}
@@ -8,7 +8,7 @@ use Rattle.three.specs.Lists.{tabulate}
 pub data Three : Type 0 where
   unknown low high : Three
 
--- the two bits of a value in a record (document 01, Records): 00 unknown, 01 known 0, 10 known 1
+-- the two bits of a value in a record (specification, 2.7): 00 unknown, 01 known 0, 10 known 1
 unfoldable pub code : Three → ℕ
 code unknown = 0
 code low = 1

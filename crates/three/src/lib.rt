@@ -1,4 +1,4 @@
-// Values 0, 1 and X, and records of two-bit fields (document 01, Records and Tick). A value is its two bits: 0 unknown, 1 low, 2 high.
+// Values 0, 1 and X, and records of two-bit fields (specification, 2). A value is its two bits: 0 unknown, 1 low, 2 high.
 ghost use mathlib.Core.Path.{_≡_};
 ghost use Prim.Native.Nat.{_*_, _<_, _≤_};
 ghost use lib.ListN.{length};
@@ -7,7 +7,7 @@ ghost use Rattle.three.specs.Value.{code, decode, both, gateTable};
 ghost use Rattle.three.specs.Cube.{merged, knownFields};
 ghost use Rattle.three.specs.Record.{bytesFor, byteOf, pack, pairAt, unpack, judged, knownTable, sound as soundRecord, IsRecord};
 
-// "0 with anything is 0, 1 with 1 is 1, the rest X"
+// 0 with anything is 0, 1 with 1 is 1, the rest X
 const AND: [[u8; 3]; 3] = [[0, 1, 0], [1, 1, 1], [0, 1, 2]];
 
 // Every mention of a constant table makes it anew: a pass makes this one once, and lends it to each gate.
@@ -24,7 +24,7 @@ pub fn and3(answers: &[[u8; 3]; 3], a: u8, b: u8) -> u8
     answers[a as usize][b as usize]
 }
 
-// "the count of its known fields, or 255 where some pair is 11"
+// The count of its known fields, or 255 where some pair is 11.
 const KNOWN: [u8; 256] = [
     0, // 0x00
     1,
@@ -300,7 +300,7 @@ fn known(counts: &[u8; 256], byte: u8) -> u8
     counts[byte as usize]
 }
 
-// "A record of f fields takes f / 4 bytes rounded up, and at least one."
+// A record of f fields takes f / 4 bytes rounded up, and at least one.
 pub fn record_length(fields: usize) -> usize
     ensures { λ r. ⌜ r ≡ bytesFor fields ⌝ }
 {

@@ -1,4 +1,4 @@
--- The public tick (document 01, Tick): its refusals in order, and what it leaves. Assumes nothing.
+-- The public tick (specification, 3.8): its refusals in order, and what it leaves. Assumes nothing.
 use mathlib.Core.Path.{_≡_}
 use mathlib.Core.List.{List, [], _∷_, _++_}
 use Prim.Native.Nat.{ℕ}

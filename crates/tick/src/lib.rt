@@ -1,4 +1,4 @@
-// The public tick (document 01, Tick).
+// The public tick (specification, 3.8).
 use circuit::Counts;
 ghost use mathlib.Core.Path.{_≡_};
 ghost use Prim.Native.Nat.{_*_, _<_, _≤_};

@@ -1,4 +1,4 @@
--- The public tick over records without X (document 01, Tick): "with none in them the results are the Boolean ones". Assumes nothing.
+-- The public tick over records without X (specification, 3.8): "with none in them the results are the Boolean ones". Assumes nothing.
 use mathlib.Core.Path.{_≡_, sym, ap, ap₂, _∙_}
 use mathlib.Core.Bool.{Bool}
 use mathlib.Core.List.{List, map}

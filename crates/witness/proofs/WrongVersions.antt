@@ -1,4 +1,4 @@
--- The five wrong versions that document 01 names (How tight the contracts are): the contract of the run allows none of them on the
+-- The five wrong versions that the specification (8.2) names: the contract of the run allows none of them on the
 -- witness circuit, over a cube buffer of 64 bytes and buffers of two for verdict and settled record, each of any content. Assumes nothing.
 use mathlib.Core.Path.{_≡_, refl, sym, ap, _∙_}
 use mathlib.Core.List.{List, [], _∷_}

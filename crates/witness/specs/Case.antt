@@ -1,4 +1,4 @@
--- A case in the way of document 01, Bench circuits: a text, its run, and what is said of every result that the contracts of reader
+-- A case in the way of the specification (9): a text, its run, and what is said of every result that the contracts of reader
 -- and run allow. The lent buffers have the stated lengths and any content. Assumes nothing.
 use mathlib.Core.Path.{_≡_}
 use mathlib.Core.Bool.{Bool, true, false, _&&_}

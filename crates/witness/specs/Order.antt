@@ -1,4 +1,4 @@
--- The order of the refusals by example (document 01, Numbers a caller may get back), for tick, run and writer: each row has one
+-- The order of the refusals by example (specification, 7.2), for tick, run and writer: each row has one
 -- fault and others that come later in the order, the next among them, and gives the first one's number. The reader's stand with
 -- its texts. Assumes nothing.
 use mathlib.Core.Path.{_≡_}

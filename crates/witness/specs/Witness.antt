@@ -1,4 +1,4 @@
--- One circuit on which each of the wrong versions of document 01 (How tight the contracts are) answers something else than the
+-- One circuit on which each of the wrong versions of the specification (8.2) answers something else than the
 -- contract: its run has more than two cubes, goes back to neither the first nor the last, settles some latches, and gives each verdict.
 -- As a text: aag 4 0 4 3 0/2 1/4 5/6 0/8 2/6/7/4/. Assumes nothing.
 use mathlib.Core.List.{List, [], _∷_}

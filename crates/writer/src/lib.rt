@@ -1,4 +1,4 @@
-// The writer of a circuit's text (document 01, Text). Every `put` answers the position behind the bytes that it writes.
+// The writer of a circuit's text (specification, 4.10). Every `put` answers the position behind the bytes that it writes.
 use circuit::Counts;
 use text::GATE_LINE;
 use text::INPUT_LINE;
@@ -19,7 +19,7 @@ ghost use Rattle.text.specs.KindsInCode.{coded};
 ghost use Rattle.putting.specs.PutInCode.{Put};
 ghost use Rattle.writer.specs.WriterInCode.{lineNumbers, countNumbers, Small, LatchLine, Shows, block, Lines, Writable};
 
-// "`aag` and a space"
+// `aag` and a space
 fn put_magic(text: &mut [u8]) -> usize
     requires { ⌜ 4 ≤ length (now text) ⌝ }
     ensures { λ r. ⌜ Put (now (text .entry)) 0 magic (now (text .exit)) r ⌝ }
@@ -55,7 +55,7 @@ fn put_line(text: &mut [u8], at: usize, line: LineNumbers) -> usize
     putting::put_word(text, third, line.third, 10)
 }
 
-// "Written text gives the reset only where it is 1"
+// Written text gives the reset only where it is 1.
 fn latch_line(own: usize, next: usize, reset: usize) -> LineNumbers
     requires { ⌜ (own < 100000) × (next < 100000) × (reset < 100000) ⌝ }
     ensures { λ r. ⌜ LatchLine own next reset r ⌝ }
@@ -151,7 +151,7 @@ fn put_counts(text: &mut [u8], at: usize, counts: Counts) -> usize
     putting::put_word(text, gates, counts.gates, 10)
 }
 
-// "then M I L O A and a newline"
+// Then M I L O A and a newline.
 fn put_header(text: &mut [u8], counts: Counts) -> usize
     requires { ⌜ Bounded counts × (length (magic ++ lineText (headNumbers counts)) ≤ length (now text)) ⌝ }
     ensures { λ r. ⌜ Put (now (text .entry)) 0 (magic ++ lineText (headNumbers counts)) (now (text .exit)) r ⌝ }
@@ -166,7 +166,7 @@ fn put_header(text: &mut [u8], counts: Counts) -> usize
     put_counts(text, inputs, counts)
 }
 
-// "Then one line for each input, latch, lamp and gate, in that order."
+// Then one line for each input, latch, lamp and gate, in that order.
 fn put_text(text: &mut [u8], counts: Counts, table: &[u16]) -> usize
     requires { ⌜ Writable counts (now table) (length (now text)) ⌝ }
     ensures { λ r. ⌜ Put (now (text .entry)) 0 (writeText counts (now (table .entry))) (now (text .exit)) r ⌝ }
@@ -294,7 +294,7 @@ pub struct WriteAnswer {
     pub bytes: usize,
 }
 
-// "Writer: 3, 10 for the table, 11, 10 for the text."
+// Writer: 3, 10 for the table, 11, 10 for the text.
 pub fn write(counts: Counts, table: &[u16], text: &mut [u8]) -> WriteAnswer
     ensures { λ r. ⌜ Writing counts (now (table .entry)) (now (text .entry)) (r .number) (r .bytes) (now (text .exit)) ⌝ }
 {
