@@ -79,7 +79,7 @@ pub fn store_kept(b: &[u8], held: [u8; LONGEST_CUBE], len: usize, out: &mut [u8]
 }
 
 // One pass over the cube at byte `at`, with all switches X.
-pub fn settle_cube(counts: Counts, table: &[u16], cubes: &[u8], at: usize, values: &mut [u8; 4096])
+pub fn settle_cube(counts: Counts, table: &[u16], cubes: &[u8], at: usize, values: &mut Values)
     requires { ⌜ Legal counts (now table) × (at ≤ length (now cubes)) × IsCube (counts .latches) (drop at (now cubes)) × SwitchesX counts (now values) ⌝ }
     ensures { λ _. ⌜ Settled counts (now (table .entry)) (cubeOf (counts .latches) (drop at (now (cubes .entry)))) (now (values .exit)) ⌝ }
 {
