@@ -21,14 +21,14 @@ given a b = record {
 }
 
 module _ (a b : ℕ) {number : ℕ} {next lamps : List ℕ} (ticked : Ticked (given a b) number next lamps) where
-  accepted : number ≡ 0
+  taken : number ≡ 0
   unfolding computed tickTests recordTests tickResultTests sound every judged bad pairs knownPairs leftover
-  accepted = ticked .answers
+  taken = ticked .answers
 
   pub next-state : next ≡ 0x80 ∷ []
   unfolding computed nextFields unpack pairAt pairs decode
-  next-state = ticked .fills-next ∙ sym (accepted-new number _ _ accepted)
+  next-state = ticked .fills-next ∙ sym (accepted-new number _ _ taken)
 
   pub lamp-before-the-tick : lamps ≡ 0x40 ∷ []
   unfolding computed lampFields unpack pairAt pairs decode
-  lamp-before-the-tick = ticked .fills-lamps ∙ sym (accepted-new number _ _ accepted)
+  lamp-before-the-tick = ticked .fills-lamps ∙ sym (accepted-new number _ _ taken)
