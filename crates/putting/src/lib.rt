@@ -1,10 +1,4 @@
 // Bytes and numbers put into a buffer (specification, 4.1 and 4.2). Every `put` answers the position behind the bytes that it writes.
-use circuit::Counts;
-use text::GATE_LINE;
-use text::INPUT_LINE;
-use text::LAMP_LINE;
-use text::LATCH_LINE;
-use text::MAGIC;
 ghost use mathlib.Core.Path.{_≡_};
 ghost use Prim.Native.Nat.{_≤_, _<_, _+_};
 ghost use lib.ListN.{length};
@@ -27,7 +21,7 @@ pub fn put_digit(text: &mut [u8], at: usize, d: usize) -> usize
     put_byte(text, at, 48 + d as u8)
 }
 
-// A number of one digit, and below of two, three, four and five; the most significant digit comes first.
+// A number of one digit, and below of two, three and four; the most significant digit comes first.
 pub fn put_one(text: &mut [u8], at: usize, n: usize) -> usize
     requires { ⌜ (n < 10) × (at + length (decimal n) ≤ length (now text)) ⌝ }
     ensures { λ r. ⌜ Put (now (text .entry)) at (decimal n) (now (text .exit)) r ⌝ }
@@ -59,17 +53,9 @@ fn put_four(text: &mut [u8], at: usize, n: usize) -> usize
     put_digit(text, last, n % 10)
 }
 
-fn put_five(text: &mut [u8], at: usize, n: usize) -> usize
-    requires { ⌜ (10000 ≤ n) × (n < 100000) × (at + length (decimal n) ≤ length (now text)) ⌝ }
-    ensures { λ r. ⌜ Put (now (text .entry)) at (decimal n) (now (text .exit)) r ⌝ }
-{
-    let last = put_four(text, at, n / 10);
-    put_digit(text, last, n % 10)
-}
-
-// No leading zero except `0` itself. A text's numbers have at most five digits: they are put without a loop or a recursion.
+// No leading zero except `0` itself. A legal circuit's numbers have at most four digits: they are put without a loop or a recursion.
 fn put_number(text: &mut [u8], at: usize, n: usize) -> usize
-    requires { ⌜ (n < 100000) × (at + length (decimal n) ≤ length (now text)) ⌝ }
+    requires { ⌜ (n < 10000) × (at + length (decimal n) ≤ length (now text)) ⌝ }
     ensures { λ r. ⌜ Put (now (text .entry)) at (decimal n) (now (text .exit)) r ⌝ }
 {
     if n < 10 {
@@ -81,15 +67,12 @@ fn put_number(text: &mut [u8], at: usize, n: usize) -> usize
     if n < 1000 {
         return put_three(text, at, n);
     }
-    if n < 10000 {
-        return put_four(text, at, n);
-    }
-    put_five(text, at, n)
+    put_four(text, at, n)
 }
 
 // A number and the byte behind it.
 pub fn put_word(text: &mut [u8], at: usize, n: usize, behind: u8) -> usize
-    requires { ⌜ (n < 100000) × (at + length (decimal n) < length (now text)) ⌝ }
+    requires { ⌜ (n < 10000) × (at + length (decimal n) < length (now text)) ⌝ }
     ensures { λ r. ⌜ Put (now (text .entry)) at (decimal n ++ (behind ∷ [])) (now (text .exit)) r × (r ≡ at + length (decimal n) + 1) ⌝ }
 {
     let end = put_number(text, at, n);

@@ -1,18 +1,22 @@
 -- From what the writer's functions answer to its contract, refusal by refusal. Assumes nothing.
 use mathlib.Core.Path.{_≡_, refl, sym, _∙_}
 use mathlib.Core.List.{List}
-use Prim.Native.Nat.{ℕ, zero, suc, _≤_, _<_}
+use Prim.Native.Nat.{ℕ, zero, suc, _+_, _*_, _-_, _/_, _≤_, _<_}
 use native.Mathlib.Nat.{zero-add}
 use native.Mathlib.Omega.{arith}
-use lib.ListN.{length}
+use borrow.Author.Tests.{ltb-true, ltb-false}
+use lib.Dec.{ltb}
+use lib.ListN.{length, getD}
 use Rattle.circuit.specs.declared.Counts.{Counts}
 use Rattle.circuit.specs.Refusal.{refusal}
-use Rattle.circuit.specs.Table.{circuitTests}
+use Rattle.circuit.specs.Table.{circuitTests, tableLength, literalsAt, gatesAt}
+use Rattle.circuit.specs.RulesInCode.{Legal}
 use Rattle.text.specs.Text.{writeText}
 use Rattle.text.specs.Calls.{Writing}
 use Rattle.putting.specs.PutInCode.{Put}
-use Rattle.writer.specs.WriterInCode.{Writable}
-use Rattle.text.proofs.Tables.{Taken, taken}
+use Rattle.writer.specs.WriterInCode.{SmallWords, Writable}
+use Rattle.circuit.proofs.Legality.{legal}
+use Rattle.three.proofs.Lists.{by-test}
 use Rattle.text.proofs.Bound.{text-bound}
 use Rattle.text.proofs.Answers.{write-stops, write-short, write-fits, writing-refused, writing-accepted}
 use Rattle.putting.proofs.Putting.{put-over}
@@ -22,18 +26,41 @@ pub written-stops : (c : Counts) (table buffer : List ℕ) (n : ℕ) → n ≡ r
 written-stops c table buffer zero e f = absurd (f refl)
 written-stops c table buffer (suc k) e f = writing-refused c table buffer (write-stops c table buffer (sym e))
 
+-- ---- a legal table's words have at most four digits
+
+-- of two words beside each other
+either-small : (words : List ℕ) (first k : ℕ) → first ≤ k → k < first + 2 → getD words first 0 < 10000 → getD words (first + 1) 0 < 10000 → getD words k 0 < 10000
+either-small words first k l h a b = by-test (ltb first k)
+    (λ e. let p : k ≡ first + 1 = omega (arith, ltb-true first k e) in rw p b)
+    (λ e. let p : k ≡ first = omega (arith, ltb-false first k e) in rw p a)
+
+legal-small : {c : Counts} {table : List ℕ} → Legal c table → SmallWords table (tableLength c)
+legal-small {c} {table} l k h = by-test (ltb k (literalsAt c))
+    (λ e. let i : ℕ = k / 2 in
+    let p : i < c .latches = omega (arith, ltb-true k (literalsAt c) e) in
+    either-small table (2 * i) k (omega arith) (omega arith) (omega (arith, l .bounded, l .next i p)) (omega (arith, l .reset i p)))
+    (λ e. by-test (ltb k (gatesAt c))
+    (λ f. let i : ℕ = k - literalsAt c in
+    let p : k ≡ literalsAt c + i = omega (arith, ltb-false k (literalsAt c) e) in
+    rw p (omega (arith, l .bounded, l .literal i (omega (arith, ltb-true k (gatesAt c) f)))))
+    (λ f. let i : ℕ = (k - gatesAt c) / 2 in
+    let g : gatesAt c ≤ k = ltb-false k (gatesAt c) f in
+    either-small table (gatesAt c + 2 * i) k (omega arith) (omega arith) (omega (arith, l .bounded, l .left i (omega arith))) (omega (arith, l .bounded, l .right i (omega arith)))))
+
+-- ---- the call
+
 module _ (c : Counts) (table : List ℕ) {n : ℕ} (e : n ≡ refusal (circuitTests c table)) (z : n ≡ 0) where
-  legal : 0 ≡ refusal (circuitTests c table)
-  legal = sym z ∙ e
+  nothing : 0 ≡ refusal (circuitTests c table)
+  nothing = sym z ∙ e
 
   -- what the passes may assume
   pub written-ready : Writable c table 60000
-  written-ready = let k : Taken c table = taken c table legal in record { bounded = k .bounded; long = k .long; fits = omega (arith, text-bound c table legal) }
+  written-ready = let l : Legal c table = legal c table nothing in record { bounded = l .bounded; long = l .long; small = legal-small l; fits = omega (arith, text-bound c table nothing) }
 
   -- 10 for the text
   pub written-short : (buffer : List ℕ) → length buffer < length (writeText c table) → Writing c table buffer 10 0 buffer
-  written-short buffer h = writing-refused c table buffer (write-short c table buffer legal h)
+  written-short buffer h = writing-refused c table buffer (write-short c table buffer nothing h)
 
   pub written-accepted : {buffer buffer′ : List ℕ} {bytes : ℕ} → length (writeText c table) ≤ length buffer
       → Put buffer 0 (writeText c table) buffer′ bytes → Writing c table buffer 0 bytes buffer′
-  written-accepted {buffer} h p = rw (p .after, zero-add, put-over p h) (writing-accepted c table buffer (write-fits c table buffer legal h))
+  written-accepted {buffer} h p = rw (p .after, zero-add, put-over p h) (writing-accepted c table buffer (write-fits c table buffer nothing h))

@@ -65,11 +65,11 @@ module _ (l : LineNumbers) where
 -- ---- by its kind
 
 -- "absent meaning 0"
-pub latch-plain : {own next reset : ℕ} → own < 100000 → next < 100000 → reset ≡ 0 → LatchLine own next reset (record { more = 1; first = own; second = next; third = 0; words = 2 })
+pub latch-plain : {own next reset : ℕ} → own < 10000 → next < 10000 → reset ≡ 0 → LatchLine own next reset (record { more = 1; first = own; second = next; third = 0; words = 2 })
 unfolding andMore shown
 latch-plain o n e = record { same = rw e; wide = refl; small = omega arith }
 
-pub latch-given : {own next : ℕ} (reset : ℕ) → own < 100000 → next < 100000 → reset < 100000 → (reset ≡ 0 → ⊥)
+pub latch-given : {own next : ℕ} (reset : ℕ) → own < 10000 → next < 10000 → reset < 10000 → (reset ≡ 0 → ⊥)
     → LatchLine own next reset (record { more = 2; first = own; second = next; third = reset; words = 2 })
 unfolding andMore shown
 latch-given zero o n r f = absurd (f refl)
@@ -82,11 +82,11 @@ module _ (own : ℕ) (words : List ℕ) (at : ℕ) where
   word-second : getD (drop at words) 1 0 ≡ getD words (at + 1) 0
   word-second = getD-drop at words 1 0
 
-  pub shows-input : {k : ℕ} → k ≡ 0 → own < 100000 → Shows k own words at (record { more = 0; first = own; second = 0; third = 0; words = 0 })
+  pub shows-input : {k : ℕ} → k ≡ 0 → own < 10000 → Shows k own words at (record { more = 0; first = own; second = 0; third = 0; words = 0 })
   unfolding andMore numbers coded width
   shows-input e h = rw e (record { same = refl; wide = refl; small = omega arith })
 
-  pub shows-lamp : {k : ℕ} → k ≡ 2 → getD words at 0 < 100000 → Shows k own words at (record { more = 0; first = getD words at 0; second = 0; third = 0; words = 1 })
+  pub shows-lamp : {k : ℕ} → k ≡ 2 → getD words at 0 < 10000 → Shows k own words at (record { more = 0; first = getD words at 0; second = 0; third = 0; words = 1 })
   unfolding andMore numbers coded width
   shows-lamp e h = rw e (record { same = rw word-first; wide = refl; small = omega arith })
 
@@ -94,7 +94,7 @@ module _ (own : ℕ) (words : List ℕ) (at : ℕ) where
   unfolding numbers coded width
   shows-latch e l = rw e (record { same = l .same ∙ rw (word-first, word-second); wide = l .wide; small = l .small })
 
-  pub shows-gate : (k : ℕ) → own < 100000 → getD words at 0 < 100000 → getD words (at + 1) 0 < 100000 → (k ≡ 0 → ⊥) → (k ≡ 1 → ⊥) → (k ≡ 2 → ⊥)
+  pub shows-gate : (k : ℕ) → own < 10000 → getD words at 0 < 10000 → getD words (at + 1) 0 < 10000 → (k ≡ 0 → ⊥) → (k ≡ 1 → ⊥) → (k ≡ 2 → ⊥)
       → Shows k own words at (record { more = 2; first = own; second = getD words at 0; third = getD words (at + 1) 0; words = 2 })
   unfolding andMore numbers
   shows-gate k fits left right f g h = record { same = rw (coded-gate k own f g h, word-first, word-second); wide = width-two k own f h; small = omega arith }

@@ -12,7 +12,7 @@ use Rattle.text.specs.Line.{lineText}
 use Rattle.text.specs.Text.{numbers, writeBody}
 use Rattle.text.specs.KindsInCode.{coded}
 use Rattle.putting.specs.PutInCode.{Put}
-use Rattle.writer.specs.WriterInCode.{lineNumbers, Shows, block, Lines}
+use Rattle.writer.specs.WriterInCode.{lineNumbers, SmallWords, Shows, block, Lines}
 use Rattle.text.proofs.Stores.{sets-append}
 use Rattle.text.proofs.Coding.{width-alike}
 
@@ -39,9 +39,10 @@ module _ (kind own count : ℕ) (words : List ℕ) (at start : ℕ) where
     pub after : end + length (block kind due (count - i) words word) ≡ start + length (block kind own count words at)
     pub literals : due + 2 * (count - i) ≤ 10000
     pub there : word + (count - i) * width (coded kind 0) ≤ length words
+    pub small : SmallWords words (word + (count - i) * width (coded kind 0))
 
   pub lines-first : Lines kind own count words at → LinesLeft start own at 0
-  lines-first r = record { within = omega arith; after = rw sub-zero; literals = omega (arith, r .literals); there = rw sub-zero (r .there) }
+  lines-first r = record { within = omega arith; after = rw sub-zero; literals = omega (arith, r .literals); there = rw sub-zero (r .there); small = rw sub-zero (r .small) }
 
   module _ {end due word i : ℕ} (s : LinesLeft end due word i) (h : i < count) where
     falls : (count - i) * width (coded kind 0) ≡ (count - (i + 1)) * width (coded kind 0) + width (coded kind due)
@@ -51,6 +52,9 @@ module _ (kind own count : ℕ) (words : List ℕ) (at start : ℕ) where
 
     pub word-room : word + width (coded kind due) ≤ length words
     word-room = omega (arith, s .there, falls)
+
+    pub words-small : SmallWords words (word + width (coded kind due))
+    words-small k p = s .small k (omega (arith, falls))
 
     module _ {l : LineNumbers} (shows : Shows kind due words word l) where
       pub line-room : end + length (lineText (lineNumbers l)) ≤ start + length (block kind own count words at)
@@ -62,6 +66,7 @@ module _ (kind own count : ℕ) (words : List ℕ) (at start : ℕ) where
         after = omega (arith, s .after, simp length-append at (ap length (block-next kind words count i h shows)));
         literals = omega (arith, s .literals);
         there = omega (arith, s .there, shows .wide, falls);
+        small = λ k p. s .small k (omega (arith, shows .wide, falls));
       }
 
   pub lines-last : {end due word i : ℕ} → LinesLeft end due word i → count ≤ i → end ≡ start + length (block kind own count words at)

@@ -71,16 +71,16 @@ module _ (c : Counts) (table : List ℕ) where
   module _ {room : ℕ} (ready : Writable c table room) where
     pub lines-inputs : Lines 0 2 (c .inputs) table 0
     unfolding coded width
-    lines-inputs = omega arith
+    lines-inputs = record { literals = omega arith; there = omega arith; small = λ k h. absurd (omega arith) }
 
     pub lines-latches : Lines 1 (2 + 2 * c .inputs) (c .latches) table 0
     unfolding coded width
-    lines-latches = omega arith
+    lines-latches = record { literals = omega arith; there = omega arith; small = λ k h. ready .small k (omega arith) }
 
     pub lines-lamps : Lines 2 0 (literals c) table (literalsAt c)
     unfolding coded width
-    lines-lamps = omega arith
+    lines-lamps = record { literals = omega arith; there = omega arith; small = λ k h. ready .small k (omega arith) }
 
     pub lines-gates : Lines 3 (2 + 2 * c .inputs + 2 * c .latches) (c .gates) table (gatesAt c)
     unfolding coded width
-    lines-gates = omega arith
+    lines-gates = record { literals = omega arith; there = omega arith; small = λ k h. ready .small k (omega arith) }

@@ -2,7 +2,7 @@
 use mathlib.Core.Path.{_≡_}
 use mathlib.Core.List.{List, [], _∷_}
 use Prim.Native.Nat.{ℕ, zero, suc, _+_, _*_, _≤_, _<_}
-use lib.ListN.{length, drop}
+use lib.ListN.{length, getD, drop}
 use Rattle.circuit.specs.declared.Counts.{Counts}
 use Rattle.circuit.specs.Table.{tableLength, several, width}
 use Rattle.circuit.specs.RulesInCode.{Bounded}
@@ -24,11 +24,15 @@ lineNumbers l = andMore (l .more) (l .first) (l .second) (l .third)
 unfoldable pub countNumbers : Counts → List ℕ
 countNumbers c = c .inputs ∷ c .latches ∷ c .lamps ∷ c .gates ∷ []
 
--- a line's numbers, each of at most five digits
+-- a line's numbers, each of at most four digits
 pub record Small (line : LineNumbers) : Type 0 where
-  pub first : line .first < 100000
-  pub second : line .second < 100000
-  pub third : line .third < 100000
+  pub first : line .first < 10000
+  pub second : line .second < 10000
+  pub third : line .third < 10000
+
+-- a table's first n words, each of at most four digits
+abbrev pub SmallWords : List ℕ → ℕ → Type 0
+SmallWords words n = (k : ℕ) → k < n → getD words k 0 < 10000
 
 -- the line of a latch
 pub record LatchLine (own next reset : ℕ) (line : LineNumbers) : Type 0 where
@@ -46,13 +50,15 @@ pub record Shows (kind own : ℕ) (words : List ℕ) (at : ℕ) (line : LineNumb
 unfoldable pub block : ℕ → ℕ → ℕ → List ℕ → ℕ → List ℕ
 block kind own count words at = writeBody (several (coded kind) own count []) (drop at words)
 
--- those lines have their words, and their literals have at most five digits
+-- those lines have their words, and their numbers have at most four digits
 pub record Lines (kind own count : ℕ) (words : List ℕ) (at : ℕ) : Type 0 where
   pub literals : own + 2 * count ≤ 10000
   pub there : at + count * width (coded kind 0) ≤ length words
+  pub small : SmallWords words (at + count * width (coded kind 0))
 
 -- a circuit whose text is to be written into so many bytes
 pub record Writable (c : Counts) (words : List ℕ) (room : ℕ) : Type 0 where
   pub bounded : Bounded c
   pub long : tableLength c ≤ length words
+  pub small : SmallWords words (tableLength c)
   pub fits : length (writeText c words) ≤ room

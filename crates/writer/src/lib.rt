@@ -17,7 +17,7 @@ ghost use Rattle.text.specs.Text.{magic, headNumbers, writeText};
 ghost use Rattle.text.specs.Calls.{Writing};
 ghost use Rattle.text.specs.KindsInCode.{coded};
 ghost use Rattle.putting.specs.PutInCode.{Put};
-ghost use Rattle.writer.specs.WriterInCode.{lineNumbers, countNumbers, Small, LatchLine, Shows, block, Lines, Writable};
+ghost use Rattle.writer.specs.WriterInCode.{lineNumbers, countNumbers, Small, SmallWords, LatchLine, Shows, block, Lines, Writable};
 
 // `aag` and a space
 fn put_magic(text: &mut [u8]) -> usize
@@ -57,7 +57,7 @@ fn put_line(text: &mut [u8], at: usize, line: LineNumbers) -> usize
 
 // Written text gives the reset only where it is 1.
 fn latch_line(own: usize, next: usize, reset: usize) -> LineNumbers
-    requires { ⌜ (own < 100000) × (next < 100000) × (reset < 100000) ⌝ }
+    requires { ⌜ (own < 10000) × (next < 10000) × (reset < 10000) ⌝ }
     ensures { λ r. ⌜ LatchLine own next reset r ⌝ }
 {
     if reset == 0 {
@@ -80,7 +80,7 @@ fn latch_line(own: usize, next: usize, reset: usize) -> LineNumbers
 
 // The line of a kind whose words stand at word `at`.
 fn written_line(kind: u8, own: usize, table: &[u16], at: usize) -> LineNumbers
-    requires { ⌜ (own < 100000) × (at + width (coded kind own) ≤ length (now table)) ⌝ }
+    requires { ⌜ (own < 10000) × (at + width (coded kind own) ≤ length (now table)) × SmallWords (now table) (at + width (coded kind own)) ⌝ }
     ensures { λ r. ⌜ Shows kind own (now (table .entry)) at r ⌝ }
 {
     if kind == INPUT_LINE {
@@ -201,8 +201,8 @@ fn put_text(text: &mut [u8], counts: Counts, table: &[u16]) -> usize
 // ---- the same, counted before the first byte is written
 
 fn digits(n: usize) -> usize
-    requires { ⌜ n < 100000 ⌝ }
-    ensures { λ r. ⌜ (r ≡ length (decimal n)) × (r ≤ 5) ⌝ }
+    requires { ⌜ n < 10000 ⌝ }
+    ensures { λ r. ⌜ (r ≡ length (decimal n)) × (r ≤ 4) ⌝ }
 {
     if n < 10 {
         return 1;
@@ -213,10 +213,7 @@ fn digits(n: usize) -> usize
     if n < 1000 {
         return 3;
     }
-    if n < 10000 {
-        return 4;
-    }
-    5
+    4
 }
 
 fn line_length(line: LineNumbers) -> usize

@@ -1,5 +1,5 @@
 -- `writer::count_lines` meets its contract: line by line, what is left makes it the whole. Assumes nothing.
-use Rattle.writer.proofs.WrittenLines.{LinesLeft, lines-first, word-room, line-room, lines-next, lines-last}
+use Rattle.writer.proofs.WrittenLines.{LinesLeft, lines-first, word-room, words-small, line-room, lines-next, lines-last}
 use Prim.Native.Nat.{_-_}
 use native.Mathlib.Omega.{arith}
 use Rattle.writer.proofs.count_lines.Statement.{statement}
@@ -15,7 +15,7 @@ loop-holds : tie.Need-loop-holds Inv-loop μ-loop
 loop-holds c = lines-first _ _ _ _ _ _ (c .before .pre .0)
 
 written-line-requires : tie.Need-written-line-requires Inv-loop μ-loop
-written-line-requires c κs = (omega arith, word-room _ _ _ _ _ _ (c .before .loop .inv) (c .loop-test .taken))
+written-line-requires c κs = (omega arith, word-room _ _ _ _ _ _ (c .before .loop .inv) (c .loop-test .taken), words-small _ _ _ _ _ _ (c .before .loop .inv) (c .loop-test .taken))
 
 line-length-requires : tie.Need-line-length-requires Inv-loop μ-loop
 line-length-requires c κs = c .written-line .ensures .small

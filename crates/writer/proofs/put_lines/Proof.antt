@@ -1,5 +1,5 @@
 -- `writer::put_lines` meets its contract: line by line, what is left makes it the whole. Assumes nothing.
-use Rattle.writer.proofs.WrittenLines.{PutLeft, left-first, word-room, line-room, left-next, left-last}
+use Rattle.writer.proofs.WrittenLines.{PutLeft, left-first, word-room, words-small, line-room, left-next, left-last}
 use Prim.Native.Nat.{_-_}
 use native.Mathlib.Omega.{arith}
 use Rattle.writer.proofs.put_lines.Statement.{statement}
@@ -15,7 +15,7 @@ loop-holds : tie.Need-loop-holds Inv-loop μ-loop
 loop-holds c = left-first _ _ _ _ _ _ _ (c .before .before .pre .0)
 
 written-line-requires : tie.Need-written-line-requires Inv-loop μ-loop
-written-line-requires c κs = (omega arith, word-room _ _ _ _ _ _ (c .before .loop .inv .lines) (c .loop-test .taken))
+written-line-requires c κs = (omega arith, word-room _ _ _ _ _ _ (c .before .loop .inv .lines) (c .loop-test .taken), words-small _ _ _ _ _ _ (c .before .loop .inv .lines) (c .loop-test .taken))
 
 put-line-requires : tie.Need-put-line-requires Inv-loop μ-loop
 put-line-requires c κs =

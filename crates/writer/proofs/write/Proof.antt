@@ -20,7 +20,7 @@ put-text-requires : tie.Need-put-text-requires
 put-text-requires c κs =
     let passed = c .before .before .before in
     let ready = written-ready _ _ (passed .before .circuit-refusal .ensures) (passed .if1 .left) in
-    record { bounded = ready .bounded; long = ready .long; fits = omega arith }
+    record { bounded = ready .bounded; long = ready .long; small = ready .small; fits = omega arith }
 
 same-length : tie.Need-same-length
 same-length c = omega arith

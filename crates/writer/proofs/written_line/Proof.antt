@@ -20,7 +20,11 @@ cast-left : tie.Need-cast-left
 cast-left c = let start = c .before .before .before in omega (arith, c .shared-slice-known2 .given (start .args .at))
 
 returns-2 : tie.Need-returns-2
-returns-2 c = let start = c .before .before .before .before in shows-lamp _ _ _ (c .if2 .taken) (omega (arith, c .before .shared-slice-known2 .given (start .args .at)))
+returns-2 c =
+    let first = c .before .before in
+    let start = first .before .before in
+    let wide = width-some (start .args .kind) (start .args .own) (first .if1 .left) in
+    shows-lamp _ _ _ (c .if2 .taken) (start .pre .2 _ (omega (arith, wide)))
 
 add-right : tie.Need-add-right
 add-right c = search needs
@@ -36,22 +40,22 @@ cast-right c = let start = c .before .before .before .before .before in omega (a
 
 latch-line-requires : tie.Need-latch-line-requires
 latch-line-requires c κs =
-    let right = c .before in
-    let left = right .before .before in
-    let at = left .before .before .before .args .at in
-    omega (arith, left .shared-slice-known2 .given at, right .shared-slice-known3 .given (at + 1))
+    let second = c .before .before in
+    let first = second .before .before in
+    let start = first .before .before in
+    let wide = width-two (start .args .kind) (start .args .own) (first .if1 .left) (second .if2 .left) in
+    (omega arith, start .pre .2 _ (omega (arith, wide)), start .pre .2 _ (omega (arith, wide)))
 
 returns-3 : tie.Need-returns-3
 returns-3 c = shows-latch _ _ _ (c .before .if3 .taken) (c .latch-line .ensures)
 
 returns-4 : tie.Need-returns-4
 returns-4 c =
-    let right = c .before in
-    let second = right .before in
-    let left = second .before in
-    let first = left .before in
-    let at = first .before .before .args .at in
-    shows-gate _ _ _ _ (omega arith) (omega (arith, left .shared-slice-known2 .given at)) (omega (arith, right .shared-slice-known3 .given (at + 1))) (first .if1 .left) (c .if3 .left) (second .if2 .left)
+    let second = c .before .before in
+    let first = second .before .before in
+    let start = first .before .before in
+    let wide = width-two (start .args .kind) (start .args .own) (first .if1 .left) (second .if2 .left) in
+    shows-gate _ _ _ _ (omega arith) (start .pre .2 _ (omega (arith, wide))) (start .pre .2 _ (omega (arith, wide))) (first .if1 .left) (c .if3 .left) (second .if2 .left)
 
 pub written-line-spec : {M : Type 1} → statement M
 written-line-spec =
