@@ -34,35 +34,36 @@ unfolding prependAll prepend
 prependAll-prepend ns n (got ms r) = ap (λ l. got l r) (sym (append-assoc ns (n ∷ []) ms))
 prependAll-prepend ns n ill = refl
 
-module _ (ending text : List ℕ) (at : ℕ) where
+module _ (ending text : List ℕ) (at most : ℕ) where
   pub record Pieces (numbers : List ℕ) (next k : ℕ) : Type 0 where
-    pub few : k ≤ mostNumbers
+    pub few : k ≤ most
+    pub most-fits : most ≤ mostNumbers
     pub long : length numbers ≡ mostNumbers
     pub within : next ≤ length text
-    pub same : readLine ending (from text at) ≡ prependAll (take k numbers) (splitLine ending (mostNumbers - k) (from text next))
+    pub same : splitLine ending most (from text at) ≡ prependAll (take k numbers) (splitLine ending (most - k) (from text next))
 
-  pub pieces-first : (numbers : List ℕ) → length numbers ≡ mostNumbers → at ≤ length text → Pieces numbers at 0
-  pieces-first numbers l h = record { few = omega arith; long = l; within = h; same = rw sub-zero (sym (prependAll-none _)) }
+  pub pieces-first : (numbers : List ℕ) → most ≤ mostNumbers → length numbers ≡ mostNumbers → at ≤ length text → Pieces numbers at 0
+  pieces-first numbers m l h = record { few = omega arith; most-fits = m; long = l; within = h; same = rw sub-zero (sym (prependAll-none _)) }
 
   module _ {numbers : List ℕ} {next k : ℕ} (s : Pieces numbers next k) where
     -- no number is the last
-    pub pieces-end : mostNumbers ≤ k → readLine ending (from text at) ≡ ill
+    pub pieces-end : most ≤ k → splitLine ending most (from text at) ≡ ill
     unfolding splitLine prependAll
-    pieces-end e = s .same ∙ let z : mostNumbers - k ≡ 0 = omega arith in rw z
+    pieces-end e = s .same ∙ let z : most - k ≡ 0 = omega arith in rw z
 
-    module _ (h : k < mostNumbers) {n : InLine} (found : FoundInLine ending text (from text next) n) where
-      here : splitLine ending (mostNumbers - k) (from text next) ≡ linePart ending text (mostNumbers - (k + 1)) n
-      here = let z : mostNumbers - k ≡ suc (mostNumbers - (k + 1)) = omega arith in rw z (found .reads _)
+    module _ (h : k < most) {n : InLine} (found : FoundInLine ending text (from text next) n) where
+      here : splitLine ending (most - k) (from text next) ≡ linePart ending text (most - (k + 1)) n
+      here = let z : most - k ≡ suc (most - (k + 1)) = omega arith in rw z (found .reads _)
 
-      pub pieces-ill : n ≡ NotInLine → readLine ending (from text at) ≡ ill
+      pub pieces-ill : n ≡ NotInLine → splitLine ending most (from text at) ≡ ill
       unfolding linePart prependAll
       pieces-ill e = s .same ∙ rw (here, e)
 
-      pub pieces-last : {v end : ℕ} → n ≡ Last v end → LineFound text (readLine ending (from text at)) (record { count = k + 1; numbers = set numbers k v; next = end })
+      pub pieces-last : {v end : ℕ} → n ≡ Last v end → LineFound text (splitLine ending most (from text at)) (record { count = k + 1; numbers = set numbers k v; next = end })
       unfolding linePart lineEnd prependAll counted
       pieces-last {v} {end} e = record {
-        reads = s .same ∙ rw (here, e, add-one, take-suc-set numbers k v (omega (arith, s .long)));
-        shape = record { few = omega arith; long = length-set numbers k v ∙ s .long };
+        reads = s .same ∙ rw (here, e, add-one, take-suc-set numbers k v (omega (arith, s .long, s .most-fits)));
+        shape = record { few = omega (arith, s .most-fits); long = length-set numbers k v ∙ s .long };
         within = rw e at (found .within);
       }
 
@@ -70,9 +71,10 @@ module _ (ending text : List ℕ) (at : ℕ) where
       unfolding linePart lineEnd
       pieces-more {v} {end} e = record {
         few = omega arith;
+        most-fits = s .most-fits;
         long = length-set numbers k v ∙ s .long;
         within = rw e at (found .within);
-        same = s .same ∙ rw (here, e, add-one, take-suc-set numbers k v (omega (arith, s .long))) (prependAll-prepend _ _ _);
+        same = s .same ∙ rw (here, e, add-one, take-suc-set numbers k v (omega (arith, s .long, s .most-fits))) (prependAll-prepend _ _ _);
       }
 
 -- no line

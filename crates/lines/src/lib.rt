@@ -5,7 +5,7 @@ ghost use Prim.Native.Nat.{ℕ, _≤_, _<_};
 ghost use lib.ListN.{length, getD};
 ghost use Rattle.text.specs.Decimal.{mayGrow, readNumber};
 ghost use Rattle.text.specs.Text.{resetWord};
-ghost use Rattle.text.specs.Line.{mostNumbers, readLine};
+ghost use Rattle.text.specs.Line.{mostNumbers, splitLine};
 ghost use Rattle.text.specs.Part.{ill};
 ghost use Rattle.lines.specs.LinesInCode.{from, leading, NumberFound, endingBytes, EndingAt, FoundInLine, numbersOf, LineFound};
 
@@ -28,7 +28,10 @@ pub enum InLine {
 }
 
 // No line has more numbers than the first: M I L O A.
-const MOST_NUMBERS: usize = 5;
+pub const MOST_NUMBERS: usize = 5;
+
+// A line of the body has at most three.
+pub const BODY_NUMBERS: usize = 3;
 
 // The numbers of a line, none where it is ill-formed, and the position behind it.
 pub struct ReadLine {
@@ -131,13 +134,13 @@ pub fn no_line(at: usize) -> ReadLine
     }
 }
 
-pub fn line(text: &[u8], at: usize, ending: Ending) -> ReadLine
-    requires { ⌜ at ≤ length (now text) ⌝ }
-    ensures { λ r. ⌜ LineFound (now (text .entry)) (readLine (endingBytes ending) (from (now (text .entry)) at)) r ⌝ }
+pub fn line(text: &[u8], at: usize, ending: Ending, most: usize) -> ReadLine
+    requires { ⌜ (at ≤ length (now text)) × (most ≤ mostNumbers) ⌝ }
+    ensures { λ r. ⌜ LineFound (now (text .entry)) (splitLine (endingBytes ending) most (from (now (text .entry)) at)) r ⌝ }
 {
     let mut numbers = [0usize; MOST_NUMBERS];
     let mut next = at;
-    for k in 0..MOST_NUMBERS {
+    for k in 0..most {
         let found = number_in_line(text, next, ending);
         match found {
             InLine::Last(value, end) => {

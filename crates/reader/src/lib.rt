@@ -1,6 +1,8 @@
 // The reader of a circuit's text (specification, 4.9).
 use circuit::Counts;
+use lines::BODY_NUMBERS;
 use lines::Ending;
+use lines::MOST_NUMBERS;
 use lines::ReadLine;
 use text::GATE_LINE;
 use text::INPUT_LINE;
@@ -45,7 +47,7 @@ fn header(text: &[u8], ending: Ending) -> ReadLine
     if !opens(text) {
         return lines::no_line(0);
     }
-    lines::line(text, 4, ending)
+    lines::line(text, 4, ending, MOST_NUMBERS)
 }
 
 // I, L, O and A of the first line.
@@ -181,7 +183,7 @@ fn judge_line(text: &[u8], at: usize, ending: Ending, kind: u8, own: usize, most
     requires { ⌜ at ≤ length (now text) ⌝ }
     ensures { λ r. ⌜ LinesJudged (endingBytes ending) (now (text .entry)) at (lineTests most) (λ ks. coded kind own ∷ ks) r ⌝ }
 {
-    let found = lines::line(text, at, ending);
+    let found = lines::line(text, at, ending, BODY_NUMBERS);
     Judged {
         number: line_refusal(kind, own, most, found),
         next: found.next,
@@ -321,7 +323,7 @@ fn skip_inputs(text: &[u8], at: usize, ending: Ending, counts: Counts) -> usize
 {
     let mut next = at;
     for i in 0..counts.inputs {
-        let found = lines::line(text, next, ending);
+        let found = lines::line(text, next, ending, BODY_NUMBERS);
         next = found.next;
     }
     next
@@ -334,7 +336,7 @@ fn fill_latches(text: &[u8], at: usize, ending: Ending, counts: Counts, table: &
 {
     let mut next = at;
     for i in 0..counts.latches {
-        let found = lines::line(text, next, ending);
+        let found = lines::line(text, next, ending, BODY_NUMBERS);
         fill_pair(found, lines::reset_word(found), table, 2 * i);
         next = found.next;
     }
@@ -349,7 +351,7 @@ fn fill_lamps(text: &[u8], at: usize, ending: Ending, counts: Counts, table: &mu
     let first = circuit::literals_at(counts);
     let mut next = at;
     for i in 0..circuit::literals(counts) {
-        let found = lines::line(text, next, ending);
+        let found = lines::line(text, next, ending, BODY_NUMBERS);
         table[first + i] = lines::entry(found, 0) as u16;
         next = found.next;
     }
@@ -364,7 +366,7 @@ fn fill_gates(text: &[u8], at: usize, ending: Ending, counts: Counts, table: &mu
     let first = circuit::gates_at(counts);
     let mut next = at;
     for i in 0..counts.gates {
-        let found = lines::line(text, next, ending);
+        let found = lines::line(text, next, ending, BODY_NUMBERS);
         fill_pair(found, lines::entry(found, 2), table, first + 2 * i);
         next = found.next;
     }

@@ -56,7 +56,7 @@ says-read e most m o stop p = refl
 says-read {ending} e most m o (line {k = k} {ks = ks} {all = all} {ws = ws} {ns = ns} {t = t} s r) p =
     let q = passed-append (rowTests most k all) (tableTests most ks (drop (width k) all)) p in
     let v : Seen most k all ws ns = seen m (o .0) s (q .0) in
-    line-fits ending (lineTests most) k ks _ (line-split ending e mostNumbers ns t (v .shape .0) (v .shape .1) (v .shape .2)) (passed-refusal _ (v .passes))
+    line-fits ending (lineTests most) k ks _ (line-split ending e 3 ns t (v .shape .0) (v .shape .1) (v .shape .2)) (passed-refusal _ (v .passes))
     ∙ rw (says-read e most m (o .1) r (rw (← (v .gives), drop-words) at (q .1)), v .gives)
 
 closing-ends : (ending : List ℕ) {r : List ℕ} → Closing ending r → ends ending r ≡ true
@@ -98,7 +98,7 @@ unfolding lineTests inFront size tableTests
 body-line {ending} {most} {k} {ks} f b =
     let ns : List ℕ = f .numbers in
     let p = f .passes in
-    rw (split-line ending mostNumbers (f .split) .text, ← (f .gives)) (record {
+    rw (split-line ending 3 (f .split) .text, ← (f .gives)) (record {
       says = line (spelled k ns (f .others .words) (p .0) (p .1 .0)) (b .says);
       sized = simp (length-append, length-words) (omega arith);
       rules = rw (rules-words, drop-words) (append-passed (rowTests most k (words k ns)) (tableTests most ks (f .others .words)) (p .1 .1) (b .rules));

@@ -59,7 +59,7 @@ rules-words most k ns ws = elim k [ input own ↦ refl | latch own ↦ refl | ga
 
 -- A spelled line as the reader takes it
 pub record Seen (most : ℕ) (k : Kind) (all ws ns : List ℕ) : Type 0 where
-  pub shape : (0 < length ns) × (length ns ≤ mostNumbers) × Short ns
+  pub shape : (0 < length ns) × (length ns ≤ 3) × Short ns
   pub passes : Passed (lineTests most k ns)
   pub gives : words k ns ++ ws ≡ all
 

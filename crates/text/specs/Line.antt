@@ -52,6 +52,6 @@ splitLine ending (suc most) t = elim (readNumber t) [
 abbrev pub mostNumbers : ℕ
 mostNumbers = 5
 
--- the numbers of a line
+-- the numbers of a line of the body, which has at most three
 abbrev pub readLine : List ℕ → List ℕ → Part (List ℕ)
-readLine ending t = splitLine ending mostNumbers t
+readLine ending t = splitLine ending 3 t

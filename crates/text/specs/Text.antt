@@ -9,7 +9,7 @@ use Rattle.circuit.specs.declared.Counts.{Counts}
 use Rattle.circuit.specs.Refusal.{Test, _or_}
 use Rattle.circuit.specs.Table.{variables, top, ceilingTests, Kind, input, latch, literal, gate, kinds, width, rowTests}
 use Rattle.text.specs.Part.{Part, got, ill}
-use Rattle.text.specs.Line.{newline, lineText, strip, readLine}
+use Rattle.text.specs.Line.{newline, lineText, strip, readLine, splitLine, mostNumbers}
 use Rattle.text.specs.Outcome.{Outcome, accepted, refused, tested, further, onward}
 
 -- `aag` and a space
@@ -106,7 +106,7 @@ thenEnds ending o = further (λ l. ends ending (l .rest) or 9 ∷ []) o
 
 -- the numbers of the first line
 unfoldable pub header : List ℕ → List ℕ → Part (List ℕ)
-header ending t = elim (strip magic t) [ got u r ↦ readLine ending r | ill ↦ ill ]
+header ending t = elim (strip magic t) [ got u r ↦ splitLine ending mostNumbers r | ill ↦ ill ]
 
 -- I, L, O and A among them
 unfoldable pub countsOf : List ℕ → Counts

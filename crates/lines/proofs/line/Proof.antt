@@ -9,13 +9,13 @@ use Rattle.lines.proofs.line.Statement.{statement}
 use Rattle.lines.proofs.line.Tie as tie
 
 abbrev Inv-loop : tie.InvT-loop
-Inv-loop text at ending numbers₀ next₀ k₀ numbers next k = Pieces (endingBytes ending) text at numbers next k
+Inv-loop text at ending most numbers₀ next₀ k₀ numbers next k = Pieces (endingBytes ending) text at most numbers next k
 
 abbrev μ-loop : tie.MeasureT-loop
-μ-loop text at ending numbers₀ next₀ k₀ numbers next k = mostNumbers - k
+μ-loop text at ending most numbers₀ next₀ k₀ numbers next k = most - k
 
 loop-holds : tie.Need-loop-holds Inv-loop μ-loop
-loop-holds c = pieces-first _ _ _ _ refl (omega arith)
+loop-holds c = pieces-first _ _ _ _ _ (omega arith) refl (omega arith)
 
 number-in-line-requires : tie.Need-number-in-line-requires Inv-loop μ-loop
 number-in-line-requires c κs = omega arith
@@ -29,13 +29,13 @@ mul-numbers c = omega arith
 array-write-numbers : tie.Need-array-write-numbers Inv-loop μ-loop
 array-write-numbers c = omega arith
 
-add-t13 : tie.Need-add-t13 Inv-loop μ-loop
-add-t13 c = omega arith
+add-t14 : tie.Need-add-t14 Inv-loop μ-loop
+add-t14 c = omega arith
 
 returns : tie.Need-returns Inv-loop μ-loop
 returns c =
     let turn = c .before .before .before .before in
-    pieces-last _ _ _ (turn .before .loop .inv) (turn .loop-test .taken) (c .before .before .before .number-in-line .ensures) (c .before .found .given .1)
+    pieces-last _ _ _ _ (turn .before .loop .inv) (turn .loop-test .taken) (c .before .before .before .number-in-line .ensures) (c .before .found .given .1)
 
 enum-known-found-2 : tie.Need-enum-known-found-2 Inv-loop μ-loop
 enum-known-found-2 c = c .match .keys2
@@ -55,7 +55,7 @@ no-line-requires c κs = omega arith
 returns-2 : tie.Need-returns-2 Inv-loop μ-loop
 returns-2 c =
     let found = c .before .before .before in
-    rw (pieces-ill _ _ _ (found .before .before .loop .inv) (found .before .loop-test .taken) (found .number-in-line .ensures) (c .before .enum-told .given .1)) (c .no-line .ensures _ (omega arith))
+    rw (pieces-ill _ _ _ _ (found .before .before .loop .inv) (found .before .loop-test .taken) (found .number-in-line .ensures) (c .before .enum-told .given .1)) (c .no-line .ensures _ (omega arith))
 
 add-k : tie.Need-add-k Inv-loop μ-loop
 add-k c = omega arith
@@ -66,13 +66,13 @@ loop-less c = omega arith
 loop-again : tie.Need-loop-again Inv-loop μ-loop
 loop-again c =
     let turn = c .before .before .before .before in
-    pieces-more _ _ _ (turn .before .loop .inv) (turn .loop-test .taken) (c .before .before .before .number-in-line .ensures) (c .before .found2 .given .1)
+    pieces-more _ _ _ _ (turn .before .loop .inv) (turn .loop-test .taken) (c .before .before .before .number-in-line .ensures) (c .before .found2 .given .1)
 
 no-line-requires-2 : tie.Need-no-line-requires-2 Inv-loop μ-loop
 no-line-requires-2 c κs = omega arith
 
 returns-3 : tie.Need-returns-3 Inv-loop μ-loop
-returns-3 c = rw (pieces-end _ _ _ (c .before .before .loop .inv) (c .before .loop-test .left)) (c .no-line2 .ensures _ (omega arith))
+returns-3 c = rw (pieces-end _ _ _ _ (c .before .before .loop .inv) (c .before .loop-test .left)) (c .no-line2 .ensures _ (omega arith))
 
 pub line-spec : {M : Type 1} → statement M
 line-spec =
@@ -85,7 +85,7 @@ line-spec =
     enum-known-found
     mul-numbers
     array-write-numbers
-    add-t13
+    add-t14
     returns
     enum-known-found-2
     mul-numbers-2

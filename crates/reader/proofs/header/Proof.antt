@@ -16,7 +16,7 @@ returns : tie.Need-returns
 returns c = rw (header-none _ _ (c .before .before .opens .ensures) (not-true _ (c .before .if1 .taken))) (c .no-line .ensures _ (omega arith))
 
 line-requires : tie.Need-line-requires
-line-requires c κs = opened-long _ (c .before .opens .ensures) (not-false _ (c .if1 .left))
+line-requires c κs = (opened-long _ (c .before .opens .ensures) (not-false _ (c .if1 .left)), omega arith)
 
 returns-2 : tie.Need-returns-2
 returns-2 c = rw (header-line _ _ (c .before .before .opens .ensures) (not-false _ (c .before .if1 .left))) (c .line .ensures)
