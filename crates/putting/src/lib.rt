@@ -67,7 +67,7 @@ fn put_number(text: &mut [u8], at: usize, n: usize) -> usize
     if n < 1000 {
         return put_three(text, at, n);
     }
-    put_four(text, at, n)
+    put_four(text, at, n as u16 as usize) // 16 bits are divided faster than 64
 }
 
 // A number and the byte behind it.
