@@ -148,7 +148,7 @@ fn gate_refusal(own: usize, most: usize, found: ReadLine) -> u32
         return 6;
     }
     if left >= own {
-        return 7;
+        return 7; // not below its gate
     }
     if right >= own {
         return 7;

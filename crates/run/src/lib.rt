@@ -35,7 +35,7 @@ fn run_refusal(
         return 13;
     }
     if cubes > MOST_CUBE_BYTES {
-        return 13;
+        return 13; // over 65,536 bytes
     }
     if verdict < three::record_length(counts.lamps) {
         return 10;
