@@ -31,5 +31,4 @@ Passed (t ∷ ts) = (t .holds ≡ true) × Passed ts
 
 -- a call's number decides what it leaves: after 0 the new, after a refusal the old
 unfoldable pub leftBy : {A : Type 0} → ℕ → A → A → A
-leftBy zero new old = new
-leftBy (suc n) new old = old
+leftBy number new old = elim number [ zero ↦ new | suc n ↦ old ]

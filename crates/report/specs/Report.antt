@@ -29,18 +29,14 @@ closedReport n j lamps latches = closing n j (knownFields latches) ++ (rows Row.
 
 -- a circuit's run with w = 16
 unfoldable pub ended : Circuit → Ending → List ℕ
-ended c (stops n j) = closedReport n j (verdict c (cubeAt c 16) n) (settled c (cubeAt c 16) n j)
-ended c full = refusing 15
+ended c e = elim e [ stops n j ↦ closedReport n j (verdict c (cubeAt c 16) n) (settled c (cubeAt c 16) n j) | full ↦ refusing 15 ]
 
 -- and a cube buffer of 65,536 bytes
 unfoldable pub runReport : Content → List ℕ
-runReport t =
-    let c : Circuit = circuitOf (t .counts) (t .words) in
-    ended c (run c 16 (65536 / cubeBytes (t .counts .latches)))
+runReport t = let c : Circuit = circuitOf (t .counts) (t .words) in ended c (run c 16 (65536 / cubeBytes (t .counts .latches)))
 
 unfoldable pub reported : Outcome Content → List ℕ
-reported (accepted t) = runReport t
-reported (refused n) = refusing n
+reported o = elim o [ accepted t ↦ runReport t | refused n ↦ refusing n ]
 
 -- the report on a text
 unfoldable pub reportOf : List ℕ → List ℕ

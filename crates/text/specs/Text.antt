@@ -24,8 +24,7 @@ headNumbers c = variables c ∷ c .inputs ∷ c .latches ∷ c .lamps ∷ c .gat
 
 -- how the latch with the literal own shows its reset word: it is given only where it is not 0
 unfoldable pub shown : ℕ → ℕ → List ℕ
-shown own zero = []
-shown own (suc r) = suc r ∷ []
+shown own word = elim word [ zero ↦ [] | suc r ↦ suc r ∷ [] ]
 
 -- the numbers of a line whose words open ws
 unfoldable pub numbers : Kind → List ℕ → List ℕ
@@ -47,17 +46,12 @@ writeText c table = magic ++ (lineText (headNumbers c) ++ writeBody (kinds c) ta
 
 -- how many numbers a line has
 unfoldable pub fits : Kind → ℕ → Bool
-fits (input own) n = eqb n 1
-fits (latch own) n = leb 2 n && leb n 3
-fits literal n = eqb n 1
-fits (gate own) n = eqb n 3
+fits kind n = elim kind [ input own ↦ eqb n 1 | latch own ↦ leb 2 n && leb n 3 | literal ↦ eqb n 1 | gate own ↦ eqb n 3 ]
 
 -- the own literal is the one due
 unfoldable pub owns : Kind → List ℕ → Bool
-owns (input own) ns = eqb (getD ns 0 0) own
-owns (latch own) ns = eqb (getD ns 0 0) own
-owns literal ns = true
-owns (gate own) ns = eqb (getD ns 0 0) own
+owns kind ns =
+    elim kind [ input own ↦ eqb (getD ns 0 0) own | latch own ↦ eqb (getD ns 0 0) own | literal ↦ true | gate own ↦ eqb (getD ns 0 0) own ]
 
 -- the reset word of a latch whose line shows the literal own and the reset r
 unfoldable pub resetWord : ℕ → ℕ → ℕ

@@ -20,11 +20,7 @@ byteOf a b c d = 64 * code a + 16 * code b + 4 * code c + code d
 -- byte number k of a record: fields 4 × k to 4 × k + 3; leftover bits are 0, as those of an unknown field
 unfoldable pub byteAt : Cube → ℕ → ℕ
 byteAt fields k =
-    byteOf
-    (getD fields (4 * k) unknown)
-    (getD fields (4 * k + 1) unknown)
-    (getD fields (4 * k + 2) unknown)
-    (getD fields (4 * k + 3) unknown)
+    byteOf (getD fields (4 * k) unknown) (getD fields (4 * k + 1) unknown) (getD fields (4 * k + 2) unknown) (getD fields (4 * k + 3) unknown)
 
 -- the record of these fields
 unfoldable pub pack : Cube → List ℕ
@@ -50,8 +46,7 @@ bad (p ∷ ps) = eqb p 3 || bad ps
 -- how many pairs are known: not 00
 unfoldable pub knownPairs : List ℕ → ℕ
 knownPairs [] = 0
-knownPairs (zero ∷ ps) = knownPairs ps
-knownPairs (suc p ∷ ps) = suc (knownPairs ps)
+knownPairs (p ∷ ps) = elim p [ zero ↦ knownPairs ps | suc q ↦ suc (knownPairs ps) ]
 
 -- what a record byte is judged to be: the count of its known fields, or 255 where some pair is 11
 unfoldable pub judged : ℕ → ℕ
