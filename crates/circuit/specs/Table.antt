@@ -5,7 +5,7 @@ use lib.Dec.{leb, ltb}
 use lib.ListN.{length, getD, drop}
 use Rattle.three.specs.Lists.{tabulate}
 use Rattle.circuit.specs.declared.Counts.{Counts}
-use Rattle.circuit.specs.Circuit.{Circuit, Gate}
+use Rattle.circuit.specs.Circuit.{Circuit}
 use Rattle.circuit.specs.Refusal.{Test, _or_, allHold}
 
 -- M
@@ -68,17 +68,13 @@ unfoldable pub tableTests : ℕ → List Kind → List ℕ → List Test
 tableTests most [] ws = []
 tableTests most (k ∷ ks) ws = rowTests most k ws ++ tableTests most ks (drop (width k) ws)
 
--- n gates whose operands stand from word `at` on
-unfoldable pub gatesFrom : List ℕ → ℕ → ℕ → List Gate
-gatesFrom words at n = tabulate n (λ i. record { left = getD words (at + 2 * i) 0; right = getD words (at + 2 * i + 1) 0 })
-
 -- for each latch its next literal and its reset; then the lamp literals; then two operands a gate
 unfoldable pub circuitOf : Counts → List ℕ → Circuit
 circuitOf c words = record {
   inputs = c .inputs;
   latches = tabulate (c .latches) (λ i. record { next = getD words (2 * i) 0; reset = getD words (2 * i + 1) 0 });
   lamps = tabulate (c .lamps) (λ i. getD words (literalsAt c + i) 0);
-  gates = gatesFrom words (gatesAt c) (c .gates);
+  gates = tabulate (c .gates) (λ i. record { left = getD words (gatesAt c + 2 * i) 0; right = getD words (gatesAt c + 2 * i + 1) 0 });
 }
 
 -- 10 for the table, 11

@@ -61,16 +61,6 @@ widened d s b = elim d [ false ↦ s .held | true ↦ adjust _||_ (s .held) (dif
 unfoldable pub store : Bool → Stage → Cube → Stage
 store d s b = let held′ : List Bool = widened d s b in record { cube = hold held′ b; held = held′ }
 
-module _ (c : Circuit) (w : ℕ) where
-  -- cube number k and what is held with it, however long the run goes on
-  unfoldable pub stage : ℕ → Stage
-  stage zero = record { cube = start c; held = map (λ (l : Latch). false) (c .latches) }
-  stage (suc k) = let s : Stage = stage k in store (due w (suc k)) s (reached c s)
-
-  -- cube number k
-  unfoldable pub cubeAt : ℕ → Cube
-  cubeAt k = stage k .cube
-
 -- what a search gives
 pub data Found : Type 0 where
   at : ℕ → Found
@@ -93,9 +83,18 @@ stepped n (stops m j) f = stops m j
 stepped n full f = elim f [ at j ↦ stops n j | nowhere ↦ full ]
 
 module _ (c : Circuit) (w : ℕ) where
+  -- cube number k and what is held with it, however long the run goes on
+  unfoldable pub stage : ℕ → Stage
+  stage zero = record { cube = start c; held = map (λ (l : Latch). false) (c .latches) }
+  stage (suc k) = let s : Stage = stage k in store (due w (suc k)) s (reached c s)
+
+  -- cube number k
+  unfoldable pub cubeAt : ℕ → Cube
+  cubeAt k = stage k .cube
+
   -- where b after cube number k falls, among the cubes up to k
   unfoldable pub back : ℕ → Found
-  back k = search (cubeAt c w) (suc k) (reached c (stage c w k))
+  back k = search cubeAt (suc k) (reached c (stage k))
 
   -- the run with room for so many cubes
   unfoldable pub run : ℕ → Ending

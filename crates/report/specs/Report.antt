@@ -7,7 +7,7 @@ use Rattle.three.specs.Lists.{over}
 use Rattle.three.specs.Cube.{Cube, knownFields}
 use Rattle.circuit.specs.Circuit.{Circuit}
 use Rattle.circuit.specs.Table.{circuitOf}
-use Rattle.text.specs.Outcome.{Outcome, accepted, refused}
+use Rattle.text.specs.Outcome.{accepted, refused}
 use Rattle.text.specs.Text.{Content, readText}
 use Rattle.text.specs.Bench.{bytes}
 use Rattle.cubes.specs.Buffer.{cubeBytes}
@@ -35,12 +35,9 @@ ended c e = elim e [ stops n j ↦ closedReport n j (verdict c (cubeAt c 16) n) 
 unfoldable pub runReport : Content → List ℕ
 runReport t = let c : Circuit = circuitOf (t .counts) (t .words) in ended c (run c 16 (65536 / cubeBytes (t .counts .latches)))
 
-unfoldable pub reported : Outcome Content → List ℕ
-reported o = elim o [ accepted t ↦ runReport t | refused n ↦ refusing n ]
-
 -- the report on a text
 unfoldable pub reportOf : List ℕ → List ℕ
-reportOf text = reported (readText text)
+reportOf text = elim (readText text) [ accepted t ↦ runReport t | refused n ↦ refusing n ]
 
 -- The contract of the report: how many bytes it has, and the buffer at exit; the bytes beyond stay.
 pub record Reported (text buffer : List ℕ) (bytes : ℕ) (buffer′ : List ℕ) : Type 0 where

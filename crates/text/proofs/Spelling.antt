@@ -10,9 +10,8 @@ use lib.ListN.{length, getD, drop, List·getD-eq-default}
 use lib.Seq.{drop-at}
 use Rattle.three.specs.Lists.{tabulate}
 use Rattle.three.proofs.Lists.{and-parts, by-test, tabulate-getD}
-use Rattle.circuit.specs.Refusal.{Passed}
+use Rattle.circuit.specs.RulesInCode.{Passed}
 use Rattle.circuit.specs.Table.{Kind, input, latch, literal, gate, width, rowTests}
-use Rattle.text.specs.Line.{mostNumbers}
 use Rattle.text.specs.Text.{fits, owns, words, lineTests, resetWord, shown}
 use Rattle.text.proofs.Lines.{Short}
 use Rattle.text.proofs.Tables.{due}
@@ -59,7 +58,7 @@ rules-words most k ns ws = elim k [ input own ↦ refl | latch own ↦ refl | ga
 
 -- A spelled line as the reader takes it
 pub record Seen (most : ℕ) (k : Kind) (all ws ns : List ℕ) : Type 0 where
-  pub shape : (0 < length ns) × (length ns ≤ mostNumbers) × Short ns
+  pub shape : (0 < length ns) × (length ns ≤ 5) × Short ns
   pub passes : Passed (lineTests most k ns)
   pub gives : words k ns ++ ws ≡ all
 

@@ -45,10 +45,6 @@ splitLine ending (suc most) t = elim (readNumber t) [
   ]
 ]
 
--- no line has more numbers than the first, M I L O A
-abbrev pub mostNumbers : ℕ
-mostNumbers = 5
-
--- the numbers of a line
+-- the numbers of a line; no line has more than the first, M I L O A
 abbrev pub readLine : List ℕ → List ℕ → Part (List ℕ)
-readLine ending t = splitLine ending mostNumbers t
+readLine ending t = splitLine ending 5 t

@@ -11,13 +11,9 @@ pub data Outcome (A : Type 0) : Type 0 where
 unfoldable pub numberOf : {A : Type 0} → Outcome A → ℕ
 numberOf o = elim o [ accepted a ↦ 0 | refused n ↦ n ]
 
--- an outcome after a number: 0 leaves it as it is
-unfoldable pub after : {A : Type 0} → ℕ → Outcome A → Outcome A
-after number o = elim number [ zero ↦ o | suc n ↦ refused (suc n) ]
-
 -- tests in front of an outcome: the refusal of the first that fails
 unfoldable pub tested : {A : Type 0} → List Test → Outcome A → Outcome A
-tested ts o = after (refusal ts) o
+tested ts o = elim (refusal ts) [ zero ↦ o | suc n ↦ refused (suc n) ]
 
 -- further tests, of what is accepted
 unfoldable pub further : {A : Type 0} → (A → List Test) → Outcome A → Outcome A

@@ -1,8 +1,6 @@
 -- The values 0, 1 and X (specification, 2.1 to 2.3), and the two logics that a circuit is read in. Assumes nothing.
 use mathlib.Core.Bool.{Bool, true, false, not, _&&_}
-use mathlib.Core.List.{List}
 use Prim.Native.Nat.{ℕ, zero, suc}
-use Rattle.three.specs.Lists.{tabulate}
 
 -- X, 0 and 1
 pub data Three : Type 0 where
@@ -14,9 +12,7 @@ code v = elim v [ unknown ↦ 0 | low ↦ 1 | high ↦ 2 ]
 
 -- the value that two bits stand for; 11 stands for none, and is refused before it is read
 unfoldable pub decode : ℕ → Three
-decode zero = unknown
-decode (suc zero) = low
-decode (suc (suc n)) = high
+decode n = elim n [ zero ↦ unknown | suc zero ↦ low | suc (suc m) ↦ high ]
 
 -- a Boolean as a value
 unfoldable pub known : Bool → Three
@@ -27,10 +23,6 @@ unfoldable pub both : Three → Three → Three
 both low b = low
 both high b = b
 both unknown b = elim b [ low ↦ low | high ↦ unknown | unknown ↦ unknown ]
-
--- the gate rule as a three by three table of answers, all in their two bits
-unfoldable pub gateTable : List (List ℕ)
-gateTable = tabulate 3 (λ a. tabulate 3 (λ b. code (both (decode a) (decode b))))
 
 -- inverting swaps 0 and 1 and keeps X
 unfoldable pub inverse : Three → Three
