@@ -10,7 +10,7 @@ use Rattle.three.specs.Lists.{tabulate, Each, empty}
 use Rattle.three.specs.Value.{boolean}
 use Rattle.circuit.specs.declared.Counts.{Counts}
 use Rattle.circuit.specs.Circuit.{Circuit, signed, value, pass, settle, lamps, readings}
-use Rattle.circuit.specs.Table.{circuitOf, gatesFrom}
+use Rattle.circuit.specs.Table.{circuitOf}
 use Rattle.text.specs.Outcome.{accepted}
 use Rattle.text.specs.Text.{Content, readText}
 use Rattle.text.specs.Calls.{Reading}
@@ -35,7 +35,7 @@ abbrev K-circuit : Circuit
 K-circuit = circuitOf (K-content .counts) (K-content .words)
 
 K-dark : (e : Execution K-circuit) (t : ℕ) → lampsAfter e t ≡ false ∷ []
-unfolding lampsAfter stateAfter settings resets readings settle pass value signed boolean circuitOf gatesFrom tabulate
+unfolding lampsAfter stateAfter settings resets readings settle pass value signed boolean circuitOf tabulate
 K-dark e zero = dark (e .first) (e .allowed)
   where
     dark : (first : List Bool) → Each Allows [] first → lamps boolean K-circuit (settings e 0) first ≡ false ∷ []

@@ -21,7 +21,8 @@ use Rattle.cubes.proofs.Storing.{records-sized, stored-cube, stored-sound, stor
 use Rattle.stored.proofs.First.{first-ext, search-first}
 use Rattle.cubes.proofs.Steps.{run-step}
 use Rattle.cubes.proofs.Buffered.{latches-counted, next-counted, cubes-sized}
-use Rattle.cubes.specs.Buffer.{cubeBytes, packCubes, packCube, IsCube, cubeOf, longestCube}
+use Rattle.cubes.specs.Buffer.{cubeBytes, packCubes, packCube, cubeOf}
+use Rattle.cubes.specs.BufferInCode.{IsCube, longestCube}
 use Rattle.cubes.proofs.StoredCube.{few-bytes, Bytes, cube-covers, HeldBytes, cube-at, cube-kept, none-held}
 
 -- ---- a list pasted at the front

@@ -18,7 +18,8 @@ use Rattle.cubes.specs.OutcomesInCode.{hasStopped}
 use Rattle.stored.proofs.Keeping.{length-kept}
 use Rattle.chain.proofs.Chaining.{Going, Reached, same-length, all-fits, last-at, last-record, reached-b, closes-at, goes-on, going-first}
 use Rattle.chain.proofs.Advancing.{going-next}
-use Rattle.cubes.specs.Buffer.{cubeBytes, longestCube, packCube, IsCube, cubeOf}
+use Rattle.cubes.specs.Buffer.{cubeBytes, packCube, cubeOf}
+use Rattle.cubes.specs.BufferInCode.{longestCube, IsCube}
 use Rattle.cubes.proofs.StoredCube.{some-bytes as cube-some, few-bytes as cube-few}
 use Rattle.cubes.proofs.Steps.{run-stays}
 

@@ -8,7 +8,8 @@ use lib.Seq.{getD-take}
 use Rattle.three.proofs.Lists.{tabulate-ext}
 use Rattle.circuit.specs.declared.Counts.{Counts}
 use Rattle.circuit.specs.Circuit.{Circuit, Latch, Gate}
-use Rattle.circuit.specs.Table.{tableLength, gatesFrom, circuitOf, literalsAt, gatesAt}
+use Rattle.circuit.specs.Table.{tableLength, circuitOf, literalsAt, gatesAt}
+use Rattle.circuit.specs.RulesInCode.{gatesFrom}
 
 abbrev latch : ℕ → ℕ → Latch
 latch a b = record { next = a; reset = b }
@@ -28,7 +29,7 @@ module _ (c : Counts) (words : List ℕ) where
 
   -- the first words make the same circuit
   pub circuit-front : circuitOf c front ≡ circuitOf c words
-  unfolding circuitOf gatesFrom
+  unfolding circuitOf
   circuit-front =
       let latches = tabulate-ext (c .latches) _ _ (λ i h. ap₂ latch (word (2 * i) (omega arith)) (word (2 * i + 1) (omega arith))) in
       let lamps = tabulate-ext (c .lamps) _ _ (λ i h. word (literalsAt c + i) (omega arith)) in

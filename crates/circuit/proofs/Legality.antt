@@ -9,9 +9,9 @@ use lib.Dec.{leb, ltb}
 use lib.ListN.{length, getD}
 use Rattle.three.proofs.Lists.{and-parts, every-at}
 use Rattle.circuit.specs.declared.Counts.{Counts}
-use Rattle.circuit.specs.Refusal.{refusal, Passed, allHold}
+use Rattle.circuit.specs.Refusal.{refusal, allHold}
+use Rattle.circuit.specs.RulesInCode.{Passed, latchKept, literalKept, gateKept, Bounded, Legal}
 use Rattle.circuit.specs.Table.{top, tableLength, kinds, tableTests, ceilingTests, wordTests, circuitTests, boardTests, gatesAt}
-use Rattle.circuit.specs.RulesInCode.{latchKept, literalKept, gateKept, Bounded, Legal}
 use Rattle.circuit.proofs.Refusals.{Numbered, Alike, stops, past, none, passes, fails, passed-refusal, none-append, append-past}
 use Rattle.circuit.proofs.Rules.{Latches, Literals, Gates, table-rules}
 

@@ -5,7 +5,8 @@ use mathlib.Core.List.{List, [], _∷_, _++_}
 use Prim.Native.Nat.{ℕ, zero, suc, _<_}
 use native.Mathlib.Omega.{arith}
 use Rattle.three.proofs.Lists.{by-test}
-use Rattle.circuit.specs.Refusal.{Test, refusal, leftBy, Passed}
+use Rattle.circuit.specs.Refusal.{Test, refusal, leftBy}
+use Rattle.circuit.specs.RulesInCode.{Passed}
 
 -- the first test fails
 pub stops : (t : Test) (ts : List Test) → t .holds ≡ false → t .number ≡ refusal (t ∷ ts)

@@ -22,8 +22,7 @@ pub record Circuit : Type 0 where
 module _ {A : Type 0} (logic : Logic A) where
   -- a value as it is, or inverted where the literal is odd
   unfoldable pub signed : ℕ → A → A
-  signed zero a = a
-  signed (suc n) a = logic .invert a
+  signed n a = elim n [ zero ↦ a | suc m ↦ logic .invert a ]
 
   -- the value of a literal: 2 × variable, plus 1 if inverted
   unfoldable pub value : List A → ℕ → A

@@ -1,5 +1,4 @@
 -- The order of a call's refusals: a list of tests with their numbers, laid beside the specification's (3.4, 7.2). Assumes nothing.
-use mathlib.Core.Path.{_≡_}
 use mathlib.Core.Bool.{Bool, true, false, _&&_}
 use mathlib.Core.List.{List, [], _∷_}
 use Prim.Native.Nat.{ℕ, zero, suc}
@@ -24,12 +23,6 @@ unfoldable pub allHold : List Test → Bool
 allHold [] = true
 allHold (t ∷ ts) = t .holds && allHold ts
 
--- each of the tests holds, as a fact
-abbrev pub Passed : List Test → Type 0
-Passed [] = Unit {0}
-Passed (t ∷ ts) = (t .holds ≡ true) × Passed ts
-
 -- a call's number decides what it leaves: after 0 the new, after a refusal the old
 unfoldable pub leftBy : {A : Type 0} → ℕ → A → A → A
-leftBy zero new old = new
-leftBy (suc n) new old = old
+leftBy number new old = elim number [ zero ↦ new | suc n ↦ old ]

@@ -5,7 +5,7 @@ use lib.Dec.{leb, ltb}
 use lib.ListN.{length, getD, drop}
 use Rattle.three.specs.Lists.{tabulate}
 use Rattle.circuit.specs.declared.Counts.{Counts}
-use Rattle.circuit.specs.Circuit.{Circuit, Gate}
+use Rattle.circuit.specs.Circuit.{Circuit}
 use Rattle.circuit.specs.Refusal.{Test, _or_, allHold}
 
 -- M
@@ -18,8 +18,7 @@ top c = 2 * variables c + 1
 
 -- refusal 3: the ceilings
 unfoldable pub ceilingTests : Counts → List Test
-ceilingTests c =
-    leb (c .inputs) 256 or 3 ∷ leb (c .latches) 512 or 3 ∷ leb (c .lamps) 64 or 3 ∷ leb (c .gates) 3327 or 3 ∷ []
+ceilingTests c = leb (c .inputs) 256 or 3 ∷ leb (c .latches) 512 or 3 ∷ leb (c .lamps) 64 or 3 ∷ leb (c .gates) 3327 or 3 ∷ []
 
 -- how many lines have one literal
 abbrev pub literals : Counts → ℕ
@@ -49,16 +48,12 @@ several kind own (suc n) ks = kind own ∷ several kind (own + 2) n ks
 -- one line for each input, latch, lamp and gate, in that order
 unfoldable pub kinds : Counts → List Kind
 kinds c =
-    several input 2 (c .inputs)
-    (several latch (2 + 2 * c .inputs) (c .latches)
+    several input 2 (c .inputs) (several latch (2 + 2 * c .inputs) (c .latches)
     (several (λ own. literal) 0 (literals c) (several gate (2 + 2 * c .inputs + 2 * c .latches) (c .gates) [])))
 
 -- how many words of the table belong to a line
 unfoldable pub width : Kind → ℕ
-width (input own) = 0
-width (latch own) = 2
-width literal = 1
-width (gate own) = 2
+width kind = elim kind [ input own ↦ 0 | latch own ↦ 2 | literal ↦ 1 | gate own ↦ 2 ]
 
 -- rules 6, 7 and 8 for a line's words, the first of ws; `most` is the largest literal
 unfoldable pub rowTests : ℕ → Kind → List ℕ → List Test
@@ -73,17 +68,13 @@ unfoldable pub tableTests : ℕ → List Kind → List ℕ → List Test
 tableTests most [] ws = []
 tableTests most (k ∷ ks) ws = rowTests most k ws ++ tableTests most ks (drop (width k) ws)
 
--- n gates whose operands stand from word `at` on
-unfoldable pub gatesFrom : List ℕ → ℕ → ℕ → List Gate
-gatesFrom words at n = tabulate n (λ i. record { left = getD words (at + 2 * i) 0; right = getD words (at + 2 * i + 1) 0 })
-
 -- for each latch its next literal and its reset; then the lamp literals; then two operands a gate
 unfoldable pub circuitOf : Counts → List ℕ → Circuit
 circuitOf c words = record {
   inputs = c .inputs;
   latches = tabulate (c .latches) (λ i. record { next = getD words (2 * i) 0; reset = getD words (2 * i + 1) 0 });
   lamps = tabulate (c .lamps) (λ i. getD words (literalsAt c + i) 0);
-  gates = gatesFrom words (gatesAt c) (c .gates);
+  gates = tabulate (c .gates) (λ i. record { left = getD words (gatesAt c + 2 * i) 0; right = getD words (gatesAt c + 2 * i + 1) 0 });
 }
 
 -- 10 for the table, 11

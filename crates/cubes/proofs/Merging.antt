@@ -7,7 +7,8 @@ use lib.ListN.{length, drop, length-append, length-drop}
 use lib.Seq.{drop-drop, drop-append-add}
 use Rattle.three.specs.Lists.{over}
 use Rattle.three.specs.Cube.{Cube, merged}
-use Rattle.three.specs.Record.{bytesFor, pack, unpack, IsRecord}
+use Rattle.three.specs.Record.{bytesFor, pack, unpack}
+use Rattle.three.specs.RecordInCode.{IsRecord}
 use Rattle.three.proofs.Pack.{length-pack, unpack-over}
 use Rattle.three.proofs.Soundness.{record-over}
 use Rattle.cubes.specs.Run.{merge, mergeFrom}

@@ -9,13 +9,15 @@ use lib.Dec.{eqb}
 use lib.ListN.{length, getD, take, drop}
 use Rattle.three.specs.Lists.{tabulate, every, adjust}
 use Rattle.three.specs.Cube.{Cube, subsumes}
-use Rattle.three.specs.Record.{bytesFor, byteAt, pack, unpack, sound, IsRecord}
+use Rattle.three.specs.Record.{bytesFor, byteAt, pack, unpack, sound}
+use Rattle.three.specs.RecordInCode.{IsRecord}
 use Rattle.three.proofs.Lists.{tabulate-ext, every-ext, length-adjust}
 use Rattle.three.proofs.Pack.{length-pack, getD-pack, length-unpack, unpack-pack, unpack-take}
 use Rattle.three.proofs.Soundness.{sound-pack, sound-take, pack-unpack}
 use Rattle.three.proofs.Bytewise.{covers, covers-subsumes}
 use Rattle.cubes.specs.Run.{hold, differing}
-use Rattle.cubes.specs.Buffer.{cubeBytes, longestCube, packCube, IsCube, cubeOf, cubeIn}
+use Rattle.cubes.specs.Buffer.{cubeBytes, packCube, cubeOf, cubeIn}
+use Rattle.cubes.specs.BufferInCode.{longestCube, IsCube}
 use Rattle.cubes.specs.HeldInCode.{heldPair, heldByte, keptByte, differingByte}
 use Rattle.cubes.proofs.Pairs.{kept-byte, widened-byte}
 

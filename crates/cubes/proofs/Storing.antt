@@ -8,7 +8,8 @@ use lib.ListN.{length, getD, take, drop, length-append, length-drop}
 use lib.Seq.{paste, take-at, drop-at, drop-drop, take-all, getD-take, getD-drop}
 use Rattle.three.specs.Lists.{tabulate, over}
 use Rattle.three.specs.Cube.{Cube}
-use Rattle.cubes.specs.Buffer.{cubeBytes, packCube, IsCube, cubeIn, packCubes}
+use Rattle.cubes.specs.Buffer.{cubeBytes, packCube, cubeIn, packCubes}
+use Rattle.cubes.specs.BufferInCode.{IsCube}
 use Rattle.cubes.proofs.StoredCube.{cube-at, cube-long, cube-read, cube-sound}
 
 -- ---- the records of cubes 0 to n − 1

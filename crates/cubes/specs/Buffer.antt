@@ -4,25 +4,17 @@ use Prim.Native.Nat.{ℕ, _*_}
 use lib.ListN.{drop}
 use Rattle.three.specs.Lists.{tabulate}
 use Rattle.three.specs.Cube.{Cube}
-use Rattle.three.specs.Record.{bytesFor, pack, unpack, IsRecord}
+use Rattle.three.specs.Record.{bytesFor, pack, unpack}
 
 -- how many bytes a stored cube takes
 unfoldable pub cubeBytes : ℕ → ℕ
 cubeBytes latches = bytesFor latches
 
--- and at most, of 512 latches
-abbrev pub longestCube : ℕ
-longestCube = 128
-
 -- a stored cube's record
 unfoldable pub packCube : Cube → List ℕ
 packCube cube = pack cube
 
--- these bytes open with a stored cube
-unfoldable pub IsCube : ℕ → List ℕ → Type 0
-IsCube latches bytes = IsRecord latches bytes
-
--- which is
+-- the cube that bytes open with
 unfoldable pub cubeOf : ℕ → List ℕ → Cube
 cubeOf latches bytes = unpack latches bytes
 

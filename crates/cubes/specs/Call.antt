@@ -23,17 +23,14 @@ roomIn c buffer = length buffer / cubeBytes (c .latches)
 
 -- how many cubes are stored: n, or all that there is room for
 unfoldable pub storedCubes : ℕ → Ending → ℕ
-storedCubes room (stops n j) = n
-storedCubes room full = room
+storedCubes room e = elim e [ stops n j ↦ n | full ↦ room ]
 
 unfoldable pub backTo : Ending → ℕ
-backTo (stops n j) = j
-backTo full = 0
+backTo e = elim e [ stops n j ↦ j | full ↦ 0 ]
 
 -- 15 where the run is not closed
 unfoldable pub outcomeNumber : Ending → ℕ
-outcomeNumber (stops n j) = 0
-outcomeNumber full = 15
+outcomeNumber e = elim e [ stops n j ↦ 0 | full ↦ 15 ]
 
 -- ---- the public call
 
@@ -45,10 +42,7 @@ runResultTests c verdict settled = leb (bytesFor (c .lamps)) verdict or 10 ∷ l
 unfoldable pub runTests : Counts → List ℕ → ℕ → ℕ → ℕ → ℕ → List Test
 runTests c table w cubes verdict settled =
     boardTests c table
-    ++ (leb w 1000 or 12
-    ∷ leb (cubeBytes (c .latches)) cubes or 13
-    ∷ leb cubes 65536 or 13
-    ∷ runResultTests c verdict settled)
+    ++ (leb w 1000 or 12 ∷ leb (cubeBytes (c .latches)) cubes or 13 ∷ leb cubes 65536 or 13 ∷ runResultTests c verdict settled)
 
 -- What a run is given: counts, table, w, and the three buffers as they are lent
 pub record RunGiven : Type 0 where

@@ -5,3 +5,4 @@ pub mod Call
 pub mod Promise
 pub mod OutcomesInCode
 pub mod HeldInCode
+pub mod BufferInCode

@@ -14,8 +14,7 @@ use Rattle.cubes.specs.Execution.{Execution, stateAfter, lampsAfter}
 
 -- the most cubes that a run takes with w at least 1: one where there is no latch, else w and one for each latch
 unfoldable pub mostCubes : ℕ → ℕ → ℕ
-mostCubes w zero = 1
-mostCubes w (suc latches) = w + suc latches
+mostCubes w latches = elim latches [ zero ↦ 1 | suc n ↦ w + suc n ]
 
 module _ (g : RunGiven) (r : RunAnswer) (cubes verdict settled : List ℕ) where
   -- One execution
@@ -24,8 +23,7 @@ module _ (g : RunGiven) (r : RunAnswer) (cubes verdict settled : List ℕ) where
     pub early : (t : ℕ) → t < r .cubes → cubeIn (g .counts .latches) cubes t ∋ stateAfter e t
     pub late : (t : ℕ) → r .cubes ≤ t → cubeIn (g .counts .latches) cubes (r .back + (t - r .back) % (r .cubes - r .back)) ∋ stateAfter e t
     -- "never" (false) is dark at every tick, "always" (true) lit
-    pub judged : (i : ℕ) (v : Bool) → getD (unpack (g .counts .lamps) verdict) i unknown ≡ known v
-        → (t : ℕ) → getD (lampsAfter e t) i false ≡ v
+    pub judged : (i : ℕ) (v : Bool) → getD (unpack (g .counts .lamps) verdict) i unknown ≡ known v → (t : ℕ) → getD (lampsAfter e t) i false ≡ v
     -- a settled latch keeps its value from tick j on
     pub keeps : (i : ℕ) (v : Bool) → getD (unpack (g .counts .latches) settled) i unknown ≡ known v
         → (t : ℕ) → r .back ≤ t → getD (stateAfter e t) i false ≡ v

@@ -19,8 +19,7 @@ differing = zipWith (λ x y. not (alike x y))
 
 -- w is not 0 and divides k
 unfoldable pub due : ℕ → ℕ → Bool
-due zero k = false
-due (suc w) k = eqb (k % suc w) 0
+due w k = elim w [ zero ↦ false | suc v ↦ eqb (k % suc v) 0 ]
 
 -- all switches are X
 unfoldable pub switchesUnknown : Circuit → Cube
@@ -36,8 +35,7 @@ lampsIn c a = lamps ternary c (switchesUnknown c) a
 
 -- a reset as a field
 unfoldable pub startField : ℕ → Three
-startField zero = low
-startField (suc n) = high
+startField reset = elim reset [ zero ↦ low | suc n ↦ high ]
 
 unfoldable pub resets : Circuit → List ℕ
 resets c = map (λ (l : Latch). l .reset) (c .latches)
@@ -57,14 +55,32 @@ reached c s = hold (s .held) (nextCube c (s .cube))
 
 -- which latches are held once b is stored: where b is due, every latch whose value in a and b differs too
 unfoldable pub widened : Bool → Stage → Cube → List Bool
-widened false s b = s .held
-widened true s b = adjust _||_ (s .held) (differing (s .cube) b)
+widened d s b = elim d [ false ↦ s .held | true ↦ adjust _||_ (s .held) (differing (s .cube) b) ]
 
 -- b stored, due (true) or not
 unfoldable pub store : Bool → Stage → Cube → Stage
-store d s b =
-    let held′ : List Bool = widened d s b in
-    record { cube = hold held′ b; held = held′ }
+store d s b = let held′ : List Bool = widened d s b in record { cube = hold held′ b; held = held′ }
+
+-- what a search gives
+pub data Found : Type 0 where
+  at : ℕ → Found
+  nowhere : Found
+
+-- the first of the cubes 0 to n − 1 that subsumes b
+unfoldable pub search : (ℕ → Cube) → ℕ → Cube → Found
+search cubes zero b = nowhere
+search cubes (suc n) b =
+    elim (search cubes n b) [ at j ↦ at j | nowhere ↦ elim (subsumes (cubes n) b) [ true ↦ at n | false ↦ nowhere ] ]
+
+-- a run stops with n cubes, closed back to j below n (j = n is kept for one that ends), or has no room for the next cube
+pub data Ending : Type 0 where
+  stops : ℕ → ℕ → Ending
+  full : Ending
+
+-- with one cube more, by where b falls
+unfoldable pub stepped : ℕ → Ending → Found → Ending
+stepped n (stops m j) f = stops m j
+stepped n full f = elim f [ at j ↦ stops n j | nowhere ↦ full ]
 
 module _ (c : Circuit) (w : ℕ) where
   -- cube number k and what is held with it, however long the run goes on
@@ -76,35 +92,9 @@ module _ (c : Circuit) (w : ℕ) where
   unfoldable pub cubeAt : ℕ → Cube
   cubeAt k = stage k .cube
 
--- what a search gives
-pub data Found : Type 0 where
-  at : ℕ → Found
-  nowhere : Found
-
--- the first of the cubes 0 to n − 1 that subsumes b
-unfoldable pub search : (ℕ → Cube) → ℕ → Cube → Found
-search cubes zero b = nowhere
-search cubes (suc n) b =
-    elim (search cubes n b) [
-      | at j ↦ at j
-      | nowhere ↦ elim (subsumes (cubes n) b) [ true ↦ at n | false ↦ nowhere ]
-    ]
-
--- a run stops with n cubes, closed back to j below n (j = n is kept for one that ends), or has no room for the next cube
-pub data Ending : Type 0 where
-  stops : ℕ → ℕ → Ending
-  full : Ending
-
--- with one cube more, by where b falls
-unfoldable pub stepped : ℕ → Ending → Found → Ending
-stepped n (stops m j) f = stops m j
-stepped n full (at j) = stops n j
-stepped n full nowhere = full
-
-module _ (c : Circuit) (w : ℕ) where
   -- where b after cube number k falls, among the cubes up to k
   unfoldable pub back : ℕ → Found
-  back k = search (cubeAt c w) (suc k) (reached c (stage c w k))
+  back k = search cubeAt (suc k) (reached c (stage k))
 
   -- the run with room for so many cubes
   unfoldable pub run : ℕ → Ending
@@ -118,8 +108,7 @@ merge cubes k (suc more) = merged (merge cubes k more) (cubes (k + suc more))
 
 -- the merge of so many cubes from number k on, and what stands where there is none
 unfoldable pub mergeFrom : Cube → (ℕ → Cube) → ℕ → ℕ → Cube
-mergeFrom none cubes k zero = none
-mergeFrom none cubes k (suc more) = merge cubes k more
+mergeFrom none cubes k n = elim n [ zero ↦ none | suc more ↦ merge cubes k more ]
 
 -- per lamp never (low) if 0 in all n cubes, always (high) if 1 in all, else open (unknown); with no cube never
 unfoldable pub verdict : Circuit → (ℕ → Cube) → ℕ → Cube

@@ -6,7 +6,8 @@ use lib.ListN.{length, replicate, length-replicate}
 use Rattle.three.specs.Lists.{over}
 use Rattle.three.specs.Value.{unknown}
 use Rattle.three.specs.Cube.{Cube, knownFields}
-use Rattle.three.specs.Record.{bytesFor, pack, unpack, IsRecord}
+use Rattle.three.specs.Record.{bytesFor, pack, unpack}
+use Rattle.three.specs.RecordInCode.{IsRecord}
 use Rattle.three.proofs.Pack.{unpack-over}
 use Rattle.three.proofs.Soundness.{record-over}
 use Rattle.circuit.specs.declared.Counts.{Counts}

@@ -8,14 +8,16 @@ use lib.ListN.{length, drop, replicate}
 use Rattle.three.specs.Lists.{over}
 use Rattle.three.specs.Value.{low}
 use Rattle.three.specs.Cube.{Cube, merged}
-use Rattle.three.specs.Record.{bytesFor, pack, unpack, IsRecord}
+use Rattle.three.specs.Record.{bytesFor, pack, unpack}
+use Rattle.three.specs.RecordInCode.{IsRecord}
 use Rattle.three.proofs.Pack.{length-pack, unpack-over}
 use Rattle.three.proofs.Soundness.{record-over}
 use Rattle.circuit.specs.declared.Counts.{Counts}
 use Rattle.circuit.specs.Circuit.{Circuit, lamps}
 use Rattle.circuit.specs.Table.{circuitOf}
 use Rattle.cubes.specs.Run.{lampsIn, mergeFrom, verdict}
-use Rattle.cubes.specs.Buffer.{IsCube, cubeOf, cubeIn}
+use Rattle.cubes.specs.BufferInCode.{IsCube}
+use Rattle.cubes.specs.Buffer.{cubeOf, cubeIn}
 use Rattle.cubes.proofs.StoredCube.{cube-at}
 use Rattle.judge.specs.JudgeInCode.{Judgeable}
 use Rattle.cubes.proofs.Merging.{length-over, Merged, merged-first, merged-record, merged-length, merged-next, merged-last}

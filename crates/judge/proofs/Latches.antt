@@ -9,7 +9,8 @@ use lib.Seq.{paste, getD-drop}
 use Rattle.three.specs.Lists.{over}
 use Rattle.three.specs.Value.{unknown}
 use Rattle.three.specs.Cube.{merged}
-use Rattle.three.specs.Record.{bytesFor, pack, unpack, IsRecord}
+use Rattle.three.specs.Record.{bytesFor, pack, unpack}
+use Rattle.three.specs.RecordInCode.{IsRecord}
 use Rattle.three.proofs.Pack.{length-pack}
 use Rattle.cubes.specs.Buffer.{cubeIn}
 use Rattle.cubes.proofs.StoredCube.{cube-bytes, cube-fields, cube-record as is-record, cube-in-sized, cube-repacked, cube-at}

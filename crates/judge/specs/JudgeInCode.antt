@@ -11,7 +11,8 @@ use Rattle.circuit.specs.declared.Counts.{Counts}
 use Rattle.circuit.specs.Table.{circuitOf}
 use Rattle.circuit.specs.RulesInCode.{Legal}
 use Rattle.cubes.specs.Run.{mergeFrom, verdict, settled}
-use Rattle.cubes.specs.Buffer.{cubeBytes, IsCube, cubeIn}
+use Rattle.cubes.specs.Buffer.{cubeBytes, cubeIn}
+use Rattle.cubes.specs.BufferInCode.{IsCube}
 
 -- n cubes stand in the buffer, each a cube
 pub record Judgeable (c : Counts) (words : List ℕ) (len n : ℕ) (cubes : List ℕ) : Type 0 where

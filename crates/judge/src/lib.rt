@@ -10,7 +10,8 @@ ghost use Rattle.three.specs.Record.{bytesFor, pack};
 ghost use Rattle.circuit.specs.Table.{circuitOf};
 ghost use Rattle.circuit.specs.RulesInCode.{Legal};
 ghost use Rattle.cubes.specs.Run.{lampsIn, verdict as verdictOf};
-ghost use Rattle.cubes.specs.Buffer.{cubeBytes, IsCube, cubeOf, cubeIn};
+ghost use Rattle.cubes.specs.Buffer.{cubeBytes, cubeOf, cubeIn};
+ghost use Rattle.cubes.specs.BufferInCode.{IsCube};
 ghost use Rattle.stored.specs.CubesInCode.{SwitchesX};
 ghost use Rattle.judge.specs.JudgeInCode.{settledFrom, Judgeable, Settleable, Judgement};
 

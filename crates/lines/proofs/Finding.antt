@@ -10,11 +10,11 @@ use lib.Dec.{ltb}
 use lib.ListN.{length, getD, set, take, length-set, length-take, List·getD-eq-default}
 use lib.Seq.{take-suc-set, getD-take, length-take-le}
 use Rattle.text.specs.Part.{Part, got, ill}
-use Rattle.text.specs.Line.{prepend, splitLine, mostNumbers, readLine}
+use Rattle.text.specs.Line.{prepend, splitLine, readLine}
+use Rattle.lines.specs.LinesInCode.{mostNumbers, from, linePart, lineEnd, FoundInLine, counted, Shape, numbersOf, LineFound}
 use Rattle.lines.specs.declared.ReadLine.{ReadLine}
 use Rattle.lines.specs.declared.InLine.{InLine}
 use Rattle.lines.specs.declared.InLine.the-variants.{Last, More, NotInLine}
-use Rattle.lines.specs.LinesInCode.{from, linePart, lineEnd, FoundInLine, counted, Shape, numbersOf, LineFound}
 use Rattle.three.proofs.Lists.{by-test}
 
 -- ---- a line: k numbers are read, and the next one stands at `next`

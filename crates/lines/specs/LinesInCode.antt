@@ -13,7 +13,7 @@ use Rattle.lines.specs.declared.InLine.the-variants.{Last, More, NotInLi
 use Rattle.lines.specs.declared.ReadLine.{ReadLine}
 use Rattle.text.specs.Part.{Part, got, ill}
 use Rattle.text.specs.Decimal.{isDigit}
-use Rattle.text.specs.Line.{newline, strip, prepend, splitLine, mostNumbers}
+use Rattle.text.specs.Line.{newline, strip, prepend, splitLine}
 
 -- the text from a position on
 unfoldable pub from : List ℕ → ℕ → List ℕ
@@ -74,6 +74,10 @@ pub record FoundInLine (ending text t : List ℕ) (n : InLine) : Type 0 where
 unfoldable pub counted : ℕ → List ℕ → List ℕ → Part (List ℕ)
 counted zero ns r = ill
 counted (suc n) ns r = got (take (suc n) ns) r
+
+-- no line has more numbers
+abbrev pub mostNumbers : ℕ
+mostNumbers = 5
 
 -- The array of a line has a place for each number, of which the line takes so many
 pub record Shape (l : ReadLine) : Type 0 where

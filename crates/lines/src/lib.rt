@@ -6,6 +6,8 @@ ghost use lib.ListN.{length, getD};
 ghost use Rattle.text.specs.Decimal.{mayGrow, readNumber};
 ghost use Rattle.text.specs.Text.{resetWord};
 ghost use Rattle.text.specs.Line.{mostNumbers, splitLine};
+ghost use Rattle.lines.specs.LinesInCode.{mostNumbers};
+ghost use Rattle.text.specs.Line.{readLine};
 ghost use Rattle.text.specs.Part.{ill};
 ghost use Rattle.lines.specs.LinesInCode.{from, leading, NumberFound, endingBytes, EndingAt, FoundInLine, numbersOf, LineFound};
 

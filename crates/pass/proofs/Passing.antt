@@ -10,7 +10,7 @@ use lib.Seq.{take-suc-set, drop-set-lt, drop-cons}
 use Rattle.three.specs.Value.{Three, both, ternary}
 use Rattle.three.proofs.Lists.{length-tabulate, getD-tabulate}
 use Rattle.circuit.specs.Circuit.{Gate, value, pass}
-use Rattle.circuit.specs.Table.{gatesFrom}
+use Rattle.circuit.specs.RulesInCode.{gatesFrom}
 use Rattle.pass.specs.ValuesInCode.{valuesOf, Working, Gateable, passed}
 use Rattle.circuit.proofs.Pass.{value-take}
 use Rattle.pass.proofs.Values.{length-values}
@@ -29,13 +29,11 @@ module _ (words : List ℕ) (at first count : ℕ) where
 
   -- gate number i and those after it
   gates-cons : (i : ℕ) → i < count → drop i (gatesFrom words at count) ≡ record { left = left i; right = right i } ∷ drop (suc i) (gatesFrom words at count)
-  unfolding gatesFrom
   gates-cons i h =
       drop-cons (gatesFrom words at count) i (record { left = 0; right = 0 }) (rw length-tabulate h)
       ∙ ap (λ (g : Gate). g ∷ drop (suc i) (gatesFrom words at count)) (getD-tabulate count _ i _ h)
 
   gates-end : (i : ℕ) → count ≤ i → drop i (gatesFrom words at count) ≡ []
-  unfolding gatesFrom
   gates-end i h = drop-of-length-le (gatesFrom words at count) {i = i} (rw length-tabulate h)
 
   module _ (vs₀ : List Three) where

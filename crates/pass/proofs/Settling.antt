@@ -11,7 +11,7 @@ use Rattle.three.specs.Cube.{Cube}
 use Rattle.three.proofs.Lists.{length-tabulate, map-tabulate, tabulate-ext}
 use Rattle.circuit.specs.declared.Counts.{Counts}
 use Rattle.circuit.specs.Circuit.{value, pass, settle, next, lamps, readings}
-use Rattle.circuit.specs.Table.{top, gatesFrom, circuitOf, literalsAt, gatesAt}
+use Rattle.circuit.specs.Table.{top, circuitOf, literalsAt, gatesAt}
 use Rattle.circuit.specs.RulesInCode.{Legal}
 use Rattle.pass.specs.ValuesInCode.{valuesOf, Working, Holding, Begins, Gateable, Readable, literalValues, passed}
 use Rattle.circuit.proofs.Pass.{value-take, length-pass}
@@ -73,7 +73,7 @@ module _ (c : Counts) (words : List ℕ) (legal : Legal c words) where
     values = settle ternary (circuitOf c words) switches state
 
     length-settle : length values ≡ 1 + c .inputs + c .latches + c .gates
-    unfolding settle circuitOf gatesFrom
+    unfolding settle circuitOf
     length-settle = length-pass ternary _ _ ∙ rw (length-append, length-tabulate) (omega arith)
 
     value-begins : (x : ℕ) → x ≤ top c → value ternary (valuesOf table) x ≡ value ternary values x

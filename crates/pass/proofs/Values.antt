@@ -5,7 +5,8 @@ use Prim.Native.Nat.{ℕ, zero, suc, _+_, _*_, _/_, _%_, _<_, _≤_}
 use native.Mathlib.Nat.{le-of-suc-le-suc, not-suc-le-zero}
 use native.Mathlib.Omega.{arith}
 use lib.ListN.{length, getD, set, take, replicate, length-set, length-map, length-replicate, List·getD-map}
-use Rattle.three.specs.Record.{pairAt, unpack, IsRecord}
+use Rattle.three.specs.Record.{pairAt, unpack}
+use Rattle.three.specs.RecordInCode.{IsRecord}
 use Rattle.three.specs.Value.{Three, unknown, low, code, decode, ternary}
 use Rattle.three.proofs.Loops.{Stored, stored-next}
 use Rattle.three.proofs.Lists.{length-tabulate, getD-tabulate, getD-beyond}

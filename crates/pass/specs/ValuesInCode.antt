@@ -7,7 +7,7 @@ use Rattle.three.specs.Lists.{tabulate}
 use Rattle.three.specs.Value.{Three, unknown, low, code, decode, ternary}
 use Rattle.three.specs.Cube.{Cube}
 use Rattle.circuit.specs.Circuit.{signed, value, pass}
-use Rattle.circuit.specs.Table.{gatesFrom}
+use Rattle.circuit.specs.RulesInCode.{gatesFrom}
 
 -- the values that a working table holds
 unfoldable pub valuesOf : List ℕ → List Three

@@ -14,8 +14,10 @@ use Rattle.circuit.specs.Refusal.{refusal}
 use Rattle.circuit.specs.Table.{top, ceilingTests, tableLength, kinds}
 use Rattle.circuit.specs.RulesInCode.{Bounded}
 use Rattle.text.specs.Part.{got}
-use Rattle.text.specs.Outcome.{accepted, refused, after, onward, leaves}
-use Rattle.text.specs.Text.{lineTests, ends, Lines, readLines, thenEnds, header, countsOf, headerTests, readEnded, readText}
+use Rattle.text.specs.Outcome.{accepted, refused, onward, leaves}
+use Rattle.text.specs.OutcomeInCode.{after}
+use Rattle.text.specs.Text.{lineTests, ends, Lines, readLines, header, countsOf, headerTests, readEnded, readText}
+use Rattle.text.proofs.Steps.{thenEnds, header-ill, header-stops, header-fits, lines-stop, end-stops, end-fits, ended-long}
 use Rattle.text.specs.Calls.{zeros, Reading}
 use Rattle.lines.specs.declared.ReadLine.{ReadLine}
 use Rattle.reader.specs.declared.Judged.{Judged}
@@ -25,7 +27,6 @@ use Rattle.lines.specs.LinesInCode.{from, numbersOf, LineFound}
 use Rattle.reader.specs.ReaderInCode.{left, LinesJudged, kindsThen, linesOf, BodyAt, TextJudged, bodyWords, stand, Fillable}
 use Rattle.circuit.proofs.Refusals.{passes}
 use Rattle.circuit.proofs.Legality.{passed-bounded}
-use Rattle.text.proofs.Steps.{header-ill, header-stops, header-fits, lines-stop, end-stops, end-fits, ended-long}
 use Rattle.text.proofs.Outcomes.{accepted-same}
 use Rattle.text.proofs.Grammar.{describes}
 use Rattle.text.proofs.Answers.{read-stops, read-short, read-fits, reading-refused, reading-accepted}

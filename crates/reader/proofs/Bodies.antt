@@ -12,14 +12,15 @@ use Rattle.circuit.specs.Table.{Kind, input, latch, gate, several, literal}
 use Rattle.circuit.specs.Refusal.{Test, refusal}
 use Rattle.text.specs.Part.{got}
 use Rattle.text.specs.Line.{strip, readLine}
-use Rattle.text.specs.Outcome.{Outcome, accepted, refused, after, onward}
-use Rattle.text.specs.Text.{fits, lineTests, comment, ends, Lines, inFront, readLines}
+use Rattle.text.specs.Outcome.{Outcome, accepted, refused, onward}
+use Rattle.text.specs.OutcomeInCode.{after}
+use Rattle.text.specs.Text.{fits, lineTests, ends, Lines, readLines, words}
+use Rattle.text.proofs.Steps.{inFront, line-ill, line-stops, line-fits}
 use Rattle.lines.specs.declared.ReadLine.{ReadLine}
 use Rattle.reader.specs.declared.Judged.{Judged}
 use Rattle.lines.specs.LinesInCode.{from, EndingAt, numbersOf, LineFound}
 use Rattle.reader.specs.ReaderInCode.{left, LinesJudged}
 use Rattle.text.proofs.Outcomes.{accepted-same, refused-accepted}
-use Rattle.text.proofs.Steps.{line-ill, line-stops, line-fits}
 use Rattle.lines.proofs.Numbers.{from-end, from-byte}
 use Rattle.lines.proofs.Endings.{ending-none, ending-some}
 use Rattle.text.proofs.Lines.{strip-other, strip-same}
@@ -30,7 +31,7 @@ use Rattle.lines.proofs.Finding.{line-got, line-ill-formed}
 -- ---- the text that lines leave
 
 pub left-front : (ws : List ℕ) (o : Outcome Lines) → left (onward (inFront ws) o) ≡ left o
-unfolding left onward inFront
+unfolding left onward
 left-front ws (accepted l) = refl
 left-front ws (refused n) = refl
 
@@ -49,12 +50,10 @@ accepted-left (accepted l) e = (l, refl, accepted-same e)
 accepted-left (refused n) e = absurd (refused-accepted e)
 
 pub after-refused : {A : Type 0} (n : ℕ) (o : Outcome A) → (n ≡ 0 → ⊥) → after n o ≡ refused n
-unfolding after
 after-refused zero o h = absurd (h refl)
 after-refused (suc n) o h = refl
 
 pub after-none : {A : Type 0} {n : ℕ} (o : Outcome A) → n ≡ 0 → after n o ≡ o
-unfolding after
 after-none o e = rw e
 
 -- ---- the first pass: a line
@@ -76,8 +75,8 @@ line-judged ending text at most k l n f e = record {
   where
     on : (ks : List Kind) (n : ℕ) → n ≡ refusal (lineTests most k (numbersOf l)) → readLine ending (from text at) ≡ got (numbersOf l) (from text (l .next))
         → left (readLines ending (lineTests most) (k ∷ ks) (from text at)) ≡ after n (left (readLines ending (lineTests most) ks (from text (l .next))))
-    on ks zero h g = ap left (line-fits ending (lineTests most) k ks _ g h) ∙ left-front _ _ ∙ sym (after-none _ refl)
-    on ks (suc n) h g = left-refused (line-stops ending (lineTests most) k ks _ g h) ∙ sym (after-refused (suc n) _ (λ q. omega arith))
+    on ks zero h g = ap left (line-fits ending (lineTests most) k ks _ g h) ∙ left-front (words k (numbersOf l)) _
+    on ks (suc n) h g = left-refused (line-stops ending (lineTests most) k ks _ g h)
 
 -- ---- the first pass: the end of the text
 
@@ -94,7 +93,7 @@ module _ (ending text : List ℕ) (at : ℕ) where
     pub ended-comment : {n : ℕ} → getD text at 0 ≡ 99 → EndingAt ending text (at + 1) n → not (eqb n 0) ≡ ends ending (from text at)
     unfolding ends
     ended-comment {n} e f =
-        let same : strip (comment ending) (99 ∷ from text (at + 1)) ≡ strip ending (from text (at + 1)) = strip-same 99 99 ending _ refl in
+        let same : strip (99 ∷ ending) (99 ∷ from text (at + 1)) ≡ strip ending (from text (at + 1)) = strip-same 99 99 ending _ refl in
         rw (from-byte text at h, e) (by-test (eqb n 0)
         (λ b. rw (b, ends, same, ending-none f (eqb-true n 0 b)))
         (λ b. rw (b, ends, same, ending-some n f (eqb-false n 0 b))))

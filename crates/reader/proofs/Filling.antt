@@ -8,11 +8,11 @@ use lib.ListN.{length, getD, length-append}
 use lib.Seq.{sets, length-sets}
 use Rattle.three.specs.Lists.{over}
 use Rattle.circuit.specs.declared.Counts.{Counts}
-use Rattle.circuit.specs.Refusal.{Passed}
+use Rattle.circuit.specs.RulesInCode.{Passed}
 use Rattle.circuit.specs.Table.{top, Kind, input, latch, gate, several, rowTests, literal}
 use Rattle.text.specs.Line.{readLine}
 use Rattle.text.specs.Outcome.{accepted, leaves}
-use Rattle.text.specs.Text.{resetWord, words, lineTests, Lines, inFront, readLines}
+use Rattle.text.specs.Text.{resetWord, words, lineTests, Lines, readLines}
 use Rattle.lines.specs.declared.ReadLine.{ReadLine}
 use Rattle.lines.specs.LinesInCode.{from, numbersOf, LineFound}
 use Rattle.reader.specs.ReaderInCode.{pairOf, WordsFit, linesOf, bodyWords, Stand, stand, Fillable, Filled}
@@ -64,7 +64,7 @@ module _ (ending text : List ℕ) (c : Counts) (k : Kind) (ks : List Kind) {at p
     gives : words k (numbersOf l) ++ bodyWords ending c ks (from text (l .next)) ≡ bodyWords ending c (k ∷ ks) (from text at)
 
   turn : Turn
-  unfolding linesOf leaves inFront
+  unfolding linesOf leaves
   turn =
       let r : LineRead ending (lineTests (top c)) k ks (from text at) (linesOf ending c (k ∷ ks) (from text at)) = line-accepted ending (lineTests (top c)) k ks _ (line-numbered (top c) k) (f .accepts) in
       let q = line-read l g (r .split) in

@@ -14,7 +14,8 @@ use Rattle.reader.specs.declared.Judgement.{Judgement}
 use Rattle.reader.specs.declared.Judgement.the-variants.{Refused, Body}
 use Rattle.text.specs.Part.{got, ill}
 use Rattle.text.specs.Line.{strip}
-use Rattle.text.specs.Outcome.{Outcome, accepted, refused, after, onward, leaves}
+use Rattle.text.specs.Outcome.{Outcome, accepted, refused, onward, leaves}
+use Rattle.text.specs.OutcomeInCode.{after}
 use Rattle.text.specs.Text.{magic, lineTests, Lines, readLines, readEnded}
 use Rattle.lines.specs.LinesInCode.{from}
 

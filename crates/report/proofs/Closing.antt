@@ -21,7 +21,8 @@ use Rattle.cubes.specs.Promise.{mostCubes}
 use Rattle.cubes.proofs.Buffered.{latches-counted}
 use Rattle.cubes.proofs.Closes.{ClosesWithin, run-closes}
 use Rattle.rows.specs.Rows.{item}
-use Rattle.report.specs.Report.{closing, refusing, closedReport, ended, runReport, reported, reportOf}
+use Rattle.report.specs.Report.{closing, refusing, closedReport, ended, runReport, reportOf}
+use Rattle.report.specs.ReportInCode.{reported}
 
 -- the buffer has room for the most cubes that a run of so many latches takes
 unfoldable pub enough : ℕ → Bool
@@ -44,7 +45,7 @@ pub record ReportsClosed (text : List ℕ) (t : Content) : Type 0 where
   pub says : let c : Circuit = circuitOf (t .counts) (t .words) in reportOf text ≡ closedReport n j (verdict c (cubeAt c 16) n) (settled c (cubeAt c 16) n j)
 
 pub reports-closed : (text : List ℕ) (t : Content) → readText text ≡ accepted t → t .counts .latches ≤ 504 → ReportsClosed text t
-unfolding reportOf reported runReport ended
+unfolding reportOf runReport ended
 reports-closed text t e few =
     let c : Circuit = circuitOf (t .counts) (t .words) in
     let sized = latches-counted (t .counts) (t .words) in

@@ -5,7 +5,8 @@ use Prim.Native.Nat.{ℕ, _<_}
 use native.Mathlib.Omega.{arith}
 use lib.ListN.{length, length-append}
 use Rattle.text.proofs.Steps.{text-long}
-use Rattle.report.specs.Report.{reported, reportOf}
+use Rattle.report.specs.ReportInCode.{reported}
+use Rattle.report.specs.Report.{reportOf}
 
 pub overlong : (text rest : List ℕ) → 60000 < length text → reportOf (text ++ rest) ≡ reportOf text
 unfolding reportOf

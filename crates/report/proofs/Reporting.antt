@@ -32,7 +32,8 @@ use Rattle.run.proofs.Refusing.{run-passes}
 use Rattle.cubes.proofs.Promising.{outcome-is, verdict-is, settled-is, count-is, only-full}
 use Rattle.rows.specs.declared.Row.{Row}
 use Rattle.rows.specs.Rows.{rows}
-use Rattle.report.specs.Report.{closing, refusing, closedReport, ended, runReport, reported, reportOf, Reported}
+use Rattle.report.specs.Report.{closing, refusing, closedReport, ended, runReport, reportOf, Reported}
+use Rattle.report.specs.ReportInCode.{reported}
 use Rattle.circuit.proofs.Legality.{board-passes}
 
 -- a report that is put from the front
@@ -62,7 +63,7 @@ module _ (text table : List ℕ) (room : 7742 ≤ length table) where
   module _ {number : ℕ} {counts : Counts} {table′ : List ℕ} (reading : Reading text table number counts table′) where
     -- a refusal is the text's own
     pub read-refused : (number ≡ 0 → ⊥) → refusing number ≡ reportOf text
-    unfolding reportOf reported numberOf
+    unfolding reportOf numberOf
     read-refused h = go (readText text) refl
       where
         go : (o : Outcome Content) → readText text ≡ o → refusing number ≡ reportOf text
@@ -106,7 +107,7 @@ module _ {text : List ℕ} {counts : Counts} {table : List ℕ} (read : Read tex
 
   -- the report is that of the run's outcome
   report-is : reportOf text ≡ ended (circuitIn given) (outcomeIn given)
-  unfolding reportOf reported runReport outcomeIn roomIn
+  unfolding reportOf runReport outcomeIn roomIn
   report-is =
       let room = ap₂ (λ (n : ℕ) (k : Counts). n / cubeBytes (k .latches)) c (read .counts-are) in
       ap reported (read .is) ∙ sym (ap₂ (λ (k : Circuit) (n : ℕ). ended k (run k 16 n)) same-circuit room)

@@ -4,19 +4,19 @@ use mathlib.Core.List.{flatMap, zipWith}
 use Rattle.three.specs.Lists.{tabulate, adjust}
 use Rattle.three.specs.Value.{code, both, inverse, ternary}
 use Rattle.three.specs.Cube.{alike, allows, subsumes, blank, agree, merged, knownFields}
-use Rattle.circuit.specs.Circuit.{signed, value, pass, settle, next, lamps, readings}
+use Rattle.circuit.specs.Circuit.{signed, value, pass, settle, readings}
 use Rattle.circuit.specs.Refusal.{refusal}
-use Rattle.circuit.specs.Table.{ceilingTests, several, kinds, rowTests, circuitOf, gatesFrom}
+use Rattle.circuit.specs.Table.{ceilingTests, several, kinds, rowTests, circuitOf}
 use Rattle.text.specs.Decimal.{decimal, digits, isDigit, mayGrow, readOn, readNumber}
 use Rattle.text.specs.Line.{strip, prepend, splitLine}
-use Rattle.text.specs.Outcome.{after, tested, further, onward}
-use Rattle.text.specs.Text.{fits, owns, resetWord, words, lineTests, ends, inFront, readLines, thenEnds, header, countsOf, headerTests, readEnded, readText}
+use Rattle.text.specs.Outcome.{tested, further, onward}
+use Rattle.text.specs.Text.{fits, owns, resetWord, words, lineTests, ends, readLines, header, countsOf, headerTests, readEnded, readText}
 use Rattle.text.specs.Bench.{bytes}
 use Rattle.cubes.specs.Buffer.{cubeBytes}
 use Rattle.cubes.specs.Run.{hold, differing, due, switchesUnknown, nextCube, lampsIn, startField, resets, start, reached, widened, store, stage, cubeAt, search, stepped, back, run, merge, mergeFrom, verdict, settled}
 use Rattle.rows.specs.Rows.{item, said, row, rows}
-use Rattle.report.specs.Report.{closing, refusing, closedReport, ended, runReport, reported, reportOf}
+use Rattle.report.specs.Report.{closing, refusing, closedReport, ended, runReport, reportOf}
 
 pub shown : reportOf (bytes "aag 3 0 2 1 1/2 4/4 2 1/6/6 4 2/") ≡ bytes "cubes 2 back 0 settled 0/lamp 0 never/latch 0 -/latch 1 -/"
-unfolding bytes refusal ceilingTests several kinds rowTests decimal digits isDigit mayGrow readOn readNumber strip prepend splitLine after tested further onward fits owns words lineTests ends inFront readLines thenEnds header countsOf headerTests readText tabulate adjust code both inverse ternary alike allows subsumes blank agree merged knownFields signed value pass settle readings circuitOf gatesFrom hold differing due switchesUnknown nextCube lampsIn startField start reached widened store stage cubeAt search back run merge verdict settled item said row rows closing refusing closedReport ended runReport reported reportOf flatMap zipWith cubeBytes stepped mergeFrom readEnded resetWord resets
+unfolding bytes refusal ceilingTests several kinds rowTests decimal digits isDigit mayGrow readOn readNumber strip prepend splitLine tested further onward fits owns words lineTests ends readLines header countsOf headerTests readText tabulate adjust code both inverse ternary alike allows subsumes blank agree merged knownFields signed value pass settle readings circuitOf hold differing due switchesUnknown nextCube lampsIn startField start reached widened store stage cubeAt search back run merge verdict settled item said row rows closing refusing closedReport ended runReport reportOf flatMap zipWith cubeBytes stepped mergeFrom readEnded resetWord resets
 shown = refl

@@ -7,7 +7,7 @@ use Rattle.three.specs.Lists.{over}
 use Rattle.three.specs.Cube.{Cube, knownFields}
 use Rattle.circuit.specs.Circuit.{Circuit}
 use Rattle.circuit.specs.Table.{circuitOf}
-use Rattle.text.specs.Outcome.{Outcome, accepted, refused}
+use Rattle.text.specs.Outcome.{accepted, refused}
 use Rattle.text.specs.Text.{Content, readText}
 use Rattle.text.specs.Bench.{bytes}
 use Rattle.cubes.specs.Buffer.{cubeBytes}
@@ -29,22 +29,15 @@ closedReport n j lamps latches = closing n j (knownFields latches) ++ (rows Row.
 
 -- a circuit's run with w = 16
 unfoldable pub ended : Circuit → Ending → List ℕ
-ended c (stops n j) = closedReport n j (verdict c (cubeAt c 16) n) (settled c (cubeAt c 16) n j)
-ended c full = refusing 15
+ended c e = elim e [ stops n j ↦ closedReport n j (verdict c (cubeAt c 16) n) (settled c (cubeAt c 16) n j) | full ↦ refusing 15 ]
 
 -- and a cube buffer of 65,536 bytes
 unfoldable pub runReport : Content → List ℕ
-runReport t =
-    let c : Circuit = circuitOf (t .counts) (t .words) in
-    ended c (run c 16 (65536 / cubeBytes (t .counts .latches)))
-
-unfoldable pub reported : Outcome Content → List ℕ
-reported (accepted t) = runReport t
-reported (refused n) = refusing n
+runReport t = let c : Circuit = circuitOf (t .counts) (t .words) in ended c (run c 16 (65536 / cubeBytes (t .counts .latches)))
 
 -- the report on a text
 unfoldable pub reportOf : List ℕ → List ℕ
-reportOf text = reported (readText text)
+reportOf text = elim (readText text) [ accepted t ↦ runReport t | refused n ↦ refusing n ]
 
 -- The contract of the report: how many bytes it has, and the buffer at exit; the bytes beyond stay.
 pub record Reported (text buffer : List ℕ) (bytes : ℕ) (buffer′ : List ℕ) : Type 0 where

@@ -13,9 +13,7 @@ item name n = name ++ decimal n
 
 -- what is said of a field: of 0, of 1, and of X
 unfoldable pub said : List ℕ → List ℕ → List ℕ → Three → List ℕ
-said off on either low = off
-said off on either high = on
-said off on either unknown = either
+said off on either v = elim v [ low ↦ off | high ↦ on | unknown ↦ either ]
 
 -- the line of lamp or latch number i
 unfoldable pub row : Row → ℕ → Three → List ℕ

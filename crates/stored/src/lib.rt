@@ -11,7 +11,8 @@ ghost use Rattle.three.specs.Record.{byteAt};
 ghost use Rattle.circuit.specs.Table.{circuitOf};
 ghost use Rattle.circuit.specs.RulesInCode.{Legal};
 ghost use Rattle.cubes.specs.Run.{nextCube};
-ghost use Rattle.cubes.specs.Buffer.{cubeBytes, longestCube, packCube, IsCube, cubeOf};
+ghost use Rattle.cubes.specs.Buffer.{cubeBytes, packCube, cubeOf};
+ghost use Rattle.cubes.specs.BufferInCode.{longestCube, IsCube};
 ghost use Rattle.cubes.specs.HeldInCode.{keptByte};
 ghost use Rattle.stored.specs.CubesInCode.{startFields, keptBytes, coversFrom, first, SwitchesX, Settled};
 

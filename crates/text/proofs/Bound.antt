@@ -7,9 +7,9 @@ use native.Mathlib.Omega.{arith}
 use borrow.Author.Tests.{leb-true, ltb-true}
 use lib.ListN.{length, length-append, drop, getD}
 use Rattle.circuit.specs.declared.Counts.{Counts}
-use Rattle.circuit.specs.Refusal.{refusal, allHold, Passed}
+use Rattle.circuit.specs.Refusal.{refusal, allHold}
+use Rattle.circuit.specs.RulesInCode.{Passed, Bounded}
 use Rattle.circuit.specs.Table.{variables, top, ceilingTests, Kind, input, latch, literal, gate, several, kinds, width, rowTests, tableTests, wordTests, circuitTests, literals}
-use Rattle.circuit.specs.RulesInCode.{Bounded}
 use Rattle.text.specs.Decimal.{digits, decimal}
 use Rattle.text.specs.Line.{lineText, endedLine}
 use Rattle.text.specs.Text.{shown, numbers, headNumbers, writeBody, writeText}

@@ -10,13 +10,13 @@ use borrow.Author.Tests.{eqb-true, eq-eqb}
 use lib.ListN.{length, getD, drop, length-append}
 use Rattle.three.specs.Lists.{tabulate}
 use Rattle.circuit.specs.declared.Counts.{Counts}
-use Rattle.circuit.specs.Refusal.{refusal, Passed}
+use Rattle.circuit.specs.Refusal.{refusal}
+use Rattle.circuit.specs.RulesInCode.{Passed, Bounded}
 use Rattle.circuit.specs.Table.{variables, top, tableLength, Kind, kinds, width, rowTests, tableTests, circuitTests}
-use Rattle.circuit.specs.RulesInCode.{Bounded}
 use Rattle.text.specs.Part.{got, ill}
-use Rattle.text.specs.Line.{newline, endedLine, strip, mostNumbers}
+use Rattle.text.specs.Line.{newline, endedLine, strip}
 use Rattle.text.specs.Outcome.{accepted, onward}
-use Rattle.text.specs.Text.{magic, headNumbers, words, lineTests, comment, ends, Lines, inFront, readLines, header, countsOf, headerTests, Content, readEnded, readText}
+use Rattle.text.specs.Text.{magic, headNumbers, words, lineTests, ends, Lines, readLines, header, countsOf, headerTests, Content, readEnded, readText}
 use Rattle.text.proofs.Parts.{by-part}
 use Rattle.circuit.proofs.Refusals.{passed-append, passed-refusal}
 use Rattle.text.proofs.Outcomes.{append-passed, accepted-same}
@@ -34,7 +34,7 @@ pub data Says (ending r : List ℕ) : List Kind → List ℕ → List ℕ → Ty
 -- The end of a text, or the comment line and anything
 pub data Closing (ending : List ℕ) : List ℕ → Type 0 where
   done : Closing ending []
-  noted : (t : List ℕ) → Closing ending (comment ending ++ t)
+  noted : (t : List ℕ) → Closing ending ((99 ∷ ending) ++ t)
 
 -- A text of a circuit, whose lines have this ending
 pub record Describes (ending t : List ℕ) (c : Content) : Type 0 where
@@ -51,7 +51,7 @@ pub record Describes (ending t : List ℕ) (c : Content) : Type 0 where
 
 says-read : {ending : List ℕ} → Proper ending → (most : ℕ) {ks : List Kind} {r ws t : List ℕ}
     → most < 100000 → Owned most ks → Says ending r ks ws t → Passed (tableTests most ks ws) → readLines ending (lineTests most) ks t ≡ accepted (record { words = ws; rest = r })
-unfolding readLines inFront onward tableTests
+unfolding readLines onward tableTests
 says-read e most m o stop p = refl
 says-read {ending} e most m o (line {k = k} {ks = ks} {all = all} {ws = ws} {ns = ns} {t = t} s r) p =
     let q = passed-append (rowTests most k all) (tableTests most ks (drop (width k) all)) p in
@@ -62,7 +62,7 @@ says-read {ending} e most m o (line {k = k} {ks = ks} {all = all} {ws = ws} {ns 
 closing-ends : (ending : List ℕ) {r : List ℕ} → Closing ending r → ends ending r ≡ true
 unfolding ends
 closing-ends ending done = refl
-closing-ends ending (noted t) = rw (ends, strip-front (comment ending) t)
+closing-ends ending (noted t) = rw (ends, strip-front (99 ∷ ending) t)
 
 -- the first line's numbers
 head-fits : (c : Counts) → Bounded c → Short (headNumbers c) × Passed (headerTests (headNumbers c))
@@ -76,7 +76,7 @@ described-read {ending} {t} {c} proper d =
     let k : Taken n (c .words) = taken n (c .words) (d .legal) in
     let b = k .bounded in
     let f = head-fits n b in
-    let e : header ending t ≡ got (headNumbers n) (d .body) = rw (d .text) (line-split ending proper mostNumbers (headNumbers n) (d .body) (omega arith) (omega arith) (f .0)) in
+    let e : header ending t ≡ got (headNumbers n) (d .body) = rw (d .text) (line-split ending proper 5 (headNumbers n) (d .body) (omega arith) (omega arith) (f .0)) in
     header-fits ending t (d .short) e (passed-refusal _ (f .1)) ∙ rw (end-fits ending (says-read proper (top n) (omega arith) (owned-kinds n) (d .says) (k .rules)) (closing-ends ending (d .closes)))
 
 -- ---- what is read describes a circuit
@@ -85,7 +85,7 @@ described-read {ending} {t} {c} proper d =
 ends-closing : (ending t : List ℕ) → ends ending t ≡ true → Closing ending t
 unfolding ends
 ends-closing ending [] e = done
-ends-closing ending (b ∷ t) e = by-part (strip (comment ending) (b ∷ t)) (λ u r f. rw (front-strip (comment ending) (b ∷ t) r f) (noted r)) (λ f. absurd (false≢true (rw (f, ends) at e)))
+ends-closing ending (b ∷ t) e = by-part (strip (99 ∷ ending) (b ∷ t)) (λ u r f. rw (front-strip (99 ∷ ending) (b ∷ t) r f) (noted r)) (λ f. absurd (false≢true (rw (f, ends) at e)))
 
 -- Lines that are read as l
 record Body (ending : List ℕ) (most : ℕ) (ks : List Kind) (t : List ℕ) (l : Lines) : Type 0 where
@@ -94,7 +94,7 @@ record Body (ending : List ℕ) (most : ℕ) (ks : List Kind) (t : List ℕ) (l 
   rules : Passed (tableTests most ks (l .words))
 
 body-line : {ending : List ℕ} {most : ℕ} {k : Kind} {ks : List Kind} {t : List ℕ} {l : Lines} (f : LineRead ending (lineTests most) k ks t l) → Body ending most ks (f .behind) (f .others) → Body ending most (k ∷ ks) t l
-unfolding lineTests inFront size tableTests
+unfolding lineTests size tableTests
 body-line {ending} {most} {k} {ks} f b =
     let ns : List ℕ = f .numbers in
     let p = f .passes in
@@ -117,7 +117,7 @@ head-counts ns p = listed 5 ns (eqb-true (length ns) 5 (p .0)) ∙ rw (eqb-true 
 header-text : (ending t : List ℕ) {ns r : List ℕ} → header ending t ≡ got ns r → t ≡ magic ++ (endedLine ending ns ++ r)
 unfolding header
 header-text ending t a = by-part (strip magic t)
-    (λ u s e. front-strip magic t s e ∙ ap (λ x. magic ++ x) (split-line ending mostNumbers (rw (header, e) at a) .text))
+    (λ u s e. front-strip magic t s e ∙ ap (λ x. magic ++ x) (split-line ending 5 (rw (header, e) at a) .text))
     (λ e. let z : ill ≡ got _ _ = rw (header, e) at a in cc)
 
 read-describes : (ending t : List ℕ) {c : Content} → readEnded ending t ≡ accepted c → Describes ending t c

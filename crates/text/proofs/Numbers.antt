@@ -5,8 +5,9 @@ use native.Mathlib.Omega.{arith}
 use Rattle.circuit.specs.Refusal.{Test, refusal}
 use Rattle.circuit.specs.Table.{Kind, kinds}
 use Rattle.text.specs.Line.{newline, readLine}
-use Rattle.text.specs.Outcome.{Outcome, accepted, refused, after, tested, further, onward}
-use Rattle.text.specs.Text.{readLines, thenEnds, header, countsOf, readEnded, readText}
+use Rattle.text.specs.Outcome.{Outcome, accepted, refused, tested, further, onward}
+use Rattle.text.specs.OutcomeInCode.{after}
+use Rattle.text.specs.Text.{readLines, header, countsOf, readEnded, readText}
 use Rattle.text.proofs.Parts.{by-part}
 
 abbrev pub HasNumber : {A : Type 0} → Outcome A → Type 0
@@ -14,7 +15,7 @@ HasNumber (accepted a) = Unit {0}
 HasNumber (refused n) = 1 ≤ n
 
 tested-numbered : {A : Type 0} (ts : List Test) (o : Outcome A) → HasNumber o → HasNumber (tested ts o)
-unfolding tested after
+unfolding tested
 tested-numbered ts o h = go (refusal ts)
   where
     go : (k : ℕ) → HasNumber (after k o)
@@ -39,7 +40,7 @@ lines-numbered ending tests (k ∷ ks) t = by-part (readLine ending t)
     (λ e. rw (readLines, e) (omega arith))
 
 pub read-numbered : (t : List ℕ) → HasNumber (readText t)
-unfolding readText readEnded thenEnds
+unfolding readText readEnded
 read-numbered t = by-part (header newline t)
     (λ ns rest e. rw (readEnded, e) (tested-numbered _ _ (tested-numbered _ _ (onward-numbered _ _ (further-numbered _ _ (lines-numbered _ _ (kinds (countsOf ns)) rest))))))
     (λ e. rw (readEnded, e) (tested-numbered _ (refused 2) (omega arith)))

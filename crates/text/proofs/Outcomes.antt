@@ -5,9 +5,11 @@ use mathlib.Core.List.{List, [], _∷_, _++_}
 use Prim.Native.Nat.{ℕ, zero, suc}
 use native.Mathlib.Omega.{arith}
 use Rattle.three.proofs.Lists.{and-parts}
-use Rattle.circuit.specs.Refusal.{Test, refusal, allHold, Passed}
+use Rattle.circuit.specs.Refusal.{Test, refusal, allHold}
+use Rattle.circuit.specs.RulesInCode.{Passed}
 use Rattle.circuit.proofs.Refusals.{Numbered, passes}
-use Rattle.text.specs.Outcome.{Outcome, accepted, refused, after, tested, onward, further}
+use Rattle.text.specs.Outcome.{Outcome, accepted, refused, tested, onward, further}
+use Rattle.text.specs.OutcomeInCode.{after}
 
 -- ---- tests as facts
 
@@ -28,11 +30,11 @@ append-passed (s ∷ ss) ts p q = (p .0, append-passed ss ts (p .1) q)
 -- ---- outcomes behind tests
 
 pub tested-stops : {A : Type 0} (ts : List Test) (o : Outcome A) {k : ℕ} → suc k ≡ refusal ts → tested ts o ≡ refused (suc k)
-unfolding tested after
+unfolding tested
 tested-stops ts o e = ap (λ n. after n o) (sym e)
 
 pub tested-past : {A : Type 0} (ts : List Test) (o : Outcome A) → 0 ≡ refusal ts → tested ts o ≡ o
-unfolding tested after
+unfolding tested
 tested-past ts o e = ap (λ n. after n o) (sym e)
 
 -- ---- what an accepted outcome came from
@@ -44,7 +46,7 @@ pub accepted-same : {A : Type 0} {a b : A} → accepted a ≡ accepted b → a �
 accepted-same e = cc
 
 pub tested-accepted : {A : Type 0} (ts : List Test) (o : Outcome A) {a : A} → Numbered ts → tested ts o ≡ accepted a → Passed ts × (o ≡ accepted a)
-unfolding tested after
+unfolding tested
 tested-accepted ts o {a} n = go (refusal ts) refl
   where
     go : (k : ℕ) → k ≡ refusal ts → after k o ≡ accepted a → Passed ts × (o ≡ accepted a)

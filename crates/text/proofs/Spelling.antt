@@ -10,9 +10,8 @@ use lib.ListN.{length, getD, drop, List·getD-eq-default}
 use lib.Seq.{drop-at}
 use Rattle.three.specs.Lists.{tabulate}
 use Rattle.three.proofs.Lists.{and-parts, by-test, tabulate-getD}
-use Rattle.circuit.specs.Refusal.{Passed}
+use Rattle.circuit.specs.RulesInCode.{Passed}
 use Rattle.circuit.specs.Table.{Kind, input, latch, literal, gate, width, rowTests}
-use Rattle.text.specs.Line.{mostNumbers}
 use Rattle.text.specs.Text.{fits, owns, words, lineTests, resetWord, shown}
 use Rattle.text.proofs.Lines.{Short}
 use Rattle.text.proofs.Tables.{due}

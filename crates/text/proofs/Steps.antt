@@ -1,23 +1,28 @@
 -- Reading a step at a time, in the order of the refusals: what stops it, what lets it go on, and what it accepted. Assumes nothing.
 use mathlib.Core.Path.{_≡_, _∙_}
 use mathlib.Core.Bool.{true, false}
-use mathlib.Core.List.{List, [], _∷_}
+use mathlib.Core.List.{List, [], _∷_, _++_}
 use Prim.Native.Nat.{ℕ, suc, _≤_, _<_}
 use native.Mathlib.Omega.{arith}
 use borrow.Author.Tests.{leb-true, le-leb, lt-leb}
 use lib.Dec.{leb}
 use lib.ListN.{length}
-use Rattle.circuit.specs.Refusal.{Test, _or_, refusal, Passed}
+use Rattle.circuit.specs.Refusal.{Test, _or_, refusal}
+use Rattle.circuit.specs.RulesInCode.{Passed}
 use Rattle.circuit.specs.Table.{top, ceilingTests, Kind, input, latch, gate, literal, kinds, rowTests}
 use Rattle.circuit.proofs.Refusals.{Numbered, stops, past, none}
 use Rattle.text.specs.Part.{got, ill}
 use Rattle.text.specs.Line.{newline, readLine}
 use Rattle.text.specs.Outcome.{Outcome, accepted, refused, tested, further, onward}
-use Rattle.text.specs.Text.{words, lineTests, ends, Lines, inFront, readLines, thenEnds, header, countsOf, headerTests, Content, content, readEnded, readText}
+use Rattle.text.specs.Text.{words, lineTests, ends, Lines, readLines, header, countsOf, headerTests, Content, readEnded, readText}
 use Rattle.text.proofs.Parts.{by-part}
 use Rattle.text.proofs.Outcomes.{tested-stops, tested-past, refused-accepted, tested-accepted, further-accepted, onward-accepted}
 
 -- ---- 4 to 8, line by line
+
+-- the words of a line in front of those of the lines after it
+abbrev pub inFront : List ℕ → Lines → Lines
+inFront ws l = record { words = ws ++ l .words; rest = l .rest }
 
 module _ (ending : List ℕ) (tests : Kind → List ℕ → List Test) (k : Kind) (ks : List Kind) (t : List ℕ) where
   pub line-ill : readLine ending t ≡ ill → readLines ending tests (k ∷ ks) t ≡ refused 4
@@ -58,25 +63,31 @@ line-numbered most k ns = elim k [ input own ↦ omega arith | latch own ↦ ome
 
 -- ---- 9, after the last line
 
+abbrev pub thenEnds : List ℕ → Outcome Lines → Outcome Lines
+thenEnds ending o = further (λ l. ends ending (l .rest) or 9 ∷ []) o
+
 module _ (ending : List ℕ) {o : Outcome Lines} where
   pub lines-stop : {n : ℕ} → o ≡ refused n → thenEnds ending o ≡ refused n
-  unfolding thenEnds further
+  unfolding further
   lines-stop e = rw e
 
   pub end-accepted : {l : Lines} → thenEnds ending o ≡ accepted l → (o ≡ accepted l) × (ends ending (l .rest) ≡ true)
-  unfolding thenEnds
   end-accepted e = let p = further-accepted (λ (l : Lines). ends ending (l .rest) or 9 ∷ []) o (λ l. omega arith) e in (p .0, p .1 .0)
 
   module _ {l : Lines} (e : o ≡ accepted l) where
     pub end-stops : ends ending (l .rest) ≡ false → thenEnds ending o ≡ refused 9
-    unfolding thenEnds further
+    unfolding further
     end-stops f = rw e (tested-stops _ (accepted l) (stops _ [] f))
 
     pub end-fits : ends ending (l .rest) ≡ true → thenEnds ending o ≡ accepted l
-    unfolding thenEnds further
+    unfolding further
     end-fits f = rw e (tested-past _ (accepted l) (past _ [] f none))
 
 -- ---- 1, 2 and 3
+
+-- what the first line's numbers and the lines after it say
+abbrev pub content : List ℕ → Lines → Content
+content ns l = record { counts = countsOf ns; words = l .words }
 
 pub ended-long : (ending t : List ℕ) → 60000 < length t → readEnded ending t ≡ refused 1
 unfolding readEnded

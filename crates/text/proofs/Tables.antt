@@ -6,9 +6,9 @@ use native.Mathlib.Nat.{add-zero, sub-zero, zero-mul, suc-mul}
 use native.Mathlib.Omega.{arith}
 use lib.ListN.{length}
 use Rattle.circuit.specs.declared.Counts.{Counts}
-use Rattle.circuit.specs.Refusal.{refusal, Passed}
+use Rattle.circuit.specs.Refusal.{refusal}
+use Rattle.circuit.specs.RulesInCode.{Passed, Bounded}
 use Rattle.circuit.specs.Table.{top, ceilingTests, tableLength, Kind, input, latch, literal, gate, several, kinds, width, tableTests, circuitTests, literals}
-use Rattle.circuit.specs.RulesInCode.{Bounded}
 use Rattle.circuit.proofs.Refusals.{append-past}
 use Rattle.circuit.proofs.Legality.{bounded-passed, circuit-blocks, words-kept, words-pass}
 use Rattle.text.proofs.Outcomes.{hold-passed, passed-hold}

@@ -7,3 +7,4 @@ pub mod Calls
 pub mod Bench
 pub mod Edges
 pub mod KindsInCode
+pub mod OutcomeInCode

@@ -32,25 +32,18 @@ strip (b ∷ bs) (d ∷ t) = elim (eqb b d) [ true ↦ strip bs t | false ↦ il
 
 -- n in front of the numbers read
 unfoldable pub prepend : ℕ → Part (List ℕ) → Part (List ℕ)
-prepend n (got ns t) = got (n ∷ ns) t
-prepend n ill = ill
+prepend n part = elim part [ got ns t ↦ got (n ∷ ns) t | ill ↦ ill ]
 
 -- the numbers of a line that has at most `most` of them
 unfoldable pub splitLine : List ℕ → ℕ → List ℕ → Part (List ℕ)
 splitLine ending zero t = ill
 splitLine ending (suc most) t = elim (readNumber t) [
   | ill ↦ ill
-  | got n r ↦
-      elim (strip ending r) [
-        | got u rest ↦ got (n ∷ []) rest
-        | ill ↦
-            elim (strip space r) [ got u rest ↦ prepend n (splitLine ending most rest) | ill ↦ ill ]
-      ]
+  | got n r ↦ elim (strip ending r) [
+    | got u rest ↦ got (n ∷ []) rest
+    | ill ↦ elim (strip space r) [ got u rest ↦ prepend n (splitLine ending most rest) | ill ↦ ill ]
+  ]
 ]
-
--- no line has more numbers than the first, M I L O A
-abbrev pub mostNumbers : ℕ
-mostNumbers = 5
 
 -- the numbers of a line of the body, which has at most three
 abbrev pub readLine : List ℕ → List ℕ → Part (List ℕ)

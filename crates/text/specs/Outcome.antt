@@ -9,29 +9,20 @@ pub data Outcome (A : Type 0) : Type 0 where
 
 -- the number that a caller gets back: 0 where the call is accepted
 unfoldable pub numberOf : {A : Type 0} → Outcome A → ℕ
-numberOf (accepted a) = 0
-numberOf (refused n) = n
-
--- an outcome after a number: 0 leaves it as it is
-unfoldable pub after : {A : Type 0} → ℕ → Outcome A → Outcome A
-after zero o = o
-after (suc n) o = refused (suc n)
+numberOf o = elim o [ accepted a ↦ 0 | refused n ↦ n ]
 
 -- tests in front of an outcome: the refusal of the first that fails
 unfoldable pub tested : {A : Type 0} → List Test → Outcome A → Outcome A
-tested ts o = after (refusal ts) o
+tested ts o = elim (refusal ts) [ zero ↦ o | suc n ↦ refused (suc n) ]
 
 -- further tests, of what is accepted
 unfoldable pub further : {A : Type 0} → (A → List Test) → Outcome A → Outcome A
-further ts (accepted a) = tested (ts a) (accepted a)
-further ts (refused n) = refused n
+further ts o = elim o [ accepted a ↦ tested (ts a) (accepted a) | refused n ↦ refused n ]
 
 -- f of what is accepted
 unfoldable pub onward : {A B : Type 0} → (A → B) → Outcome A → Outcome B
-onward f (accepted a) = accepted (f a)
-onward f (refused n) = refused n
+onward f o = elim o [ accepted a ↦ accepted (f a) | refused n ↦ refused n ]
 
 -- what a call leaves: f of what is accepted, and b after a refusal
 unfoldable pub leaves : {A B : Type 0} → (A → B) → B → Outcome A → B
-leaves f b (accepted a) = f a
-leaves f b (refused n) = b
+leaves f b o = elim o [ accepted a ↦ f a | refused n ↦ b ]

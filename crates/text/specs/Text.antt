@@ -24,8 +24,7 @@ headNumbers c = variables c ∷ c .inputs ∷ c .latches ∷ c .lamps ∷ c .gat
 
 -- how the latch with the literal own shows its reset word: it is given only where it is not 0
 unfoldable pub shown : ℕ → ℕ → List ℕ
-shown own zero = []
-shown own (suc r) = suc r ∷ []
+shown own word = elim word [ zero ↦ [] | suc r ↦ suc r ∷ [] ]
 
 -- the numbers of a line whose words open ws
 unfoldable pub numbers : Kind → List ℕ → List ℕ
@@ -47,17 +46,12 @@ writeText c table = magic ++ (lineText (headNumbers c) ++ writeBody (kinds c) ta
 
 -- how many numbers a line has
 unfoldable pub fits : Kind → ℕ → Bool
-fits (input own) n = eqb n 1
-fits (latch own) n = leb 2 n && leb n 3
-fits literal n = eqb n 1
-fits (gate own) n = eqb n 3
+fits kind n = elim kind [ input own ↦ eqb n 1 | latch own ↦ leb 2 n && leb n 3 | literal ↦ eqb n 1 | gate own ↦ eqb n 3 ]
 
 -- the own literal is the one due
 unfoldable pub owns : Kind → List ℕ → Bool
-owns (input own) ns = eqb (getD ns 0 0) own
-owns (latch own) ns = eqb (getD ns 0 0) own
-owns literal ns = true
-owns (gate own) ns = eqb (getD ns 0 0) own
+owns kind ns =
+    elim kind [ input own ↦ eqb (getD ns 0 0) own | latch own ↦ eqb (getD ns 0 0) own | literal ↦ true | gate own ↦ eqb (getD ns 0 0) own ]
 
 -- the reset word of a latch whose line shows the literal own and the reset r
 unfoldable pub resetWord : ℕ → ℕ → ℕ
@@ -74,39 +68,28 @@ words (gate own) ns = getD ns 1 0 ∷ getD ns 2 0 ∷ []
 unfoldable pub lineTests : ℕ → Kind → List ℕ → List Test
 lineTests most k ns = fits k (length ns) or 4 ∷ owns k ns or 5 ∷ rowTests most k (words k ns)
 
--- the line that is just `c`
-abbrev pub comment : List ℕ → List ℕ
-comment ending = 99 ∷ ending
-
--- the end of the text, or that line, after which everything is skipped
+-- the end of the text, or the line that is just `c`, after which everything is skipped
 unfoldable pub ends : List ℕ → List ℕ → Bool
 ends ending [] = true
-ends ending (b ∷ t) = elim (strip (comment ending) (b ∷ t)) [ got u rest ↦ true | ill ↦ false ]
+ends ending (b ∷ t) = elim (strip (99 ∷ ending) (b ∷ t)) [ got u rest ↦ true | ill ↦ false ]
 
 -- What lines are read as: their words, and the text behind them
 pub record Lines : Type 0 where
   pub words : List ℕ
   pub rest : List ℕ
 
--- the words of a line in front of those of the lines after it
-unfoldable pub inFront : List ℕ → Lines → Lines
-inFront ws l = record { words = ws ++ l .words; rest = l .rest }
-
--- a line for each kind, in order, each judged by its tests; 4 where there is none
+-- a line for each kind, in order, each judged by its tests, its words in front of those of the lines after it; 4 where there is none
 unfoldable pub readLines : List ℕ → (Kind → List ℕ → List Test) → List Kind → List ℕ → Outcome Lines
 readLines ending tests [] t = accepted (record { words = []; rest = t })
 readLines ending tests (k ∷ ks) t = elim (readLine ending t) [
   | ill ↦ refused 4
-  | got ns rest ↦ tested (tests k ns) (onward (inFront (words k ns)) (readLines ending tests ks rest))
+  | got ns rest ↦
+      tested (tests k ns) (onward (λ l. record { words = words k ns ++ l .words; rest = l .rest }) (readLines ending tests ks rest))
 ]
-
--- then 9
-unfoldable pub thenEnds : List ℕ → Outcome Lines → Outcome Lines
-thenEnds ending o = further (λ l. ends ending (l .rest) or 9 ∷ []) o
 
 -- the numbers of the first line
 unfoldable pub header : List ℕ → List ℕ → Part (List ℕ)
-header ending t = elim (strip magic t) [ got u r ↦ splitLine ending mostNumbers r | ill ↦ ill ]
+header ending t = elim (strip magic t) [ got u r ↦ splitLine ending 5 r | ill ↦ ill ]
 
 -- I, L, O and A among them
 unfoldable pub countsOf : List ℕ → Counts
@@ -121,16 +104,13 @@ pub record Content : Type 0 where
   pub counts : Counts
   pub words : List ℕ
 
--- the same from the first line's numbers and the lines after it
-abbrev pub content : List ℕ → Lines → Content
-content ns l = record { counts = countsOf ns; words = l .words }
-
 -- 1, 2, 3, then line by line, 9, in a text whose lines have this ending
 unfoldable pub readEnded : List ℕ → List ℕ → Outcome Content
 readEnded ending t = tested (leb (length t) 60000 or 1 ∷ []) (elim (header ending t) [
   | ill ↦ refused 2
   | got ns rest ↦
-      tested (headerTests ns) (onward (content ns) (thenEnds ending (readLines ending (lineTests (top (countsOf ns))) (kinds (countsOf ns)) rest)))
+      tested (headerTests ns) (onward (λ l. record { counts = countsOf ns; words = l .words })
+      (further (λ l. ends ending (l .rest) or 9 ∷ []) (readLines ending (lineTests (top (countsOf ns))) (kinds (countsOf ns)) rest)))
 ])
 
 -- "each line ends in byte 10"

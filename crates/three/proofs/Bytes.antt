@@ -6,7 +6,8 @@ use native.Mathlib.Omega.{arith}
 use lib.ListN.{getD, length}
 use Rattle.three.specs.Lists.{tabulate, every}
 use Rattle.three.specs.Value.{Three, unknown, low, high, code, decode}
-use Rattle.three.specs.Record.{byteOf, pairs, pairAt, bad, knownPairs, judged}
+use Rattle.three.specs.Record.{byteOf, pairs, pairAt, bad}
+use Rattle.three.specs.RecordInCode.{knownPairs, judged}
 use Rattle.three.proofs.Table.{same-answers}
 use mathlib.Core.Bool.{Bool, true, false, cond}
 use borrow.Author.Tests.{eqb-false, ne-eqb}

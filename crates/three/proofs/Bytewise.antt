@@ -12,7 +12,8 @@ use lib.Seq.{getD-take, ext-getD}
 use Rattle.three.specs.Lists.{every}
 use Rattle.three.specs.Value.{Three, code}
 use Rattle.three.specs.Cube.{Cube, alike, blank, agree, merged, subsumes}
-use Rattle.three.specs.Record.{bytesFor, byteOf, byteAt, pack, unpack, IsRecord}
+use Rattle.three.specs.Record.{bytesFor, byteOf, byteAt, pack, unpack}
+use Rattle.three.specs.RecordInCode.{IsRecord}
 use Rattle.three.proofs.Lists.{iff, every-at, every-all}
 use Rattle.three.proofs.Bytes.{code-small}
 use Rattle.three.proofs.Pack.{length-pack, getD-pack, unpack-pack, length-unpack}

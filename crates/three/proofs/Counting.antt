@@ -9,7 +9,8 @@ use lib.ListN.{length, getD}
 use Rattle.three.specs.Lists.{tabulate}
 use Rattle.three.specs.Value.{Three, unknown, low, high, decode}
 use Rattle.three.specs.Cube.{Cube, knownFields}
-use Rattle.three.specs.Record.{bytesFor, pairs, pairAt, unpack, bad, knownPairs, judged, sound}
+use Rattle.three.specs.Record.{bytesFor, pairs, pairAt, unpack, bad, sound}
+use Rattle.three.specs.RecordInCode.{knownPairs, judged}
 use Rattle.three.proofs.Bytes.{pair-of-byte}
 use Rattle.three.proofs.Soundness.{sound-byte, sound-leftover}
 use Rattle.three.proofs.Pack.{length-unpack}

@@ -12,19 +12,20 @@ use lib.Seq.{getD-take, length-take-le}
 use Rattle.three.specs.Lists.{every, over}
 use Rattle.three.specs.Value.{Three, unknown, code, decode}
 use Rattle.three.specs.Cube.{Cube}
-use Rattle.three.specs.Record.{bytesFor, byteOf, byteAt, pack, pairs, pairAt, unpack, bad, judged, leftover, sound, IsRecord}
+use Rattle.three.specs.Record.{bytesFor, byteOf, byteAt, pack, pairs, pairAt, unpack, bad, leftover, sound}
+use Rattle.three.specs.RecordInCode.{IsRecord}
 use Rattle.three.proofs.Lists.{and-parts, by-test, getD-tabulate, getD-beyond, tabulate-ext, tabulate-getD, every-at, every-all, every-ext}
-use Rattle.three.proofs.Bytes.{pair-digit, pair-of-byte, code-decode, byte-small, judged-bad, no-11, leftover-byte, whole-byte, byte-good}
+use Rattle.three.proofs.Bytes.{pair-digit, pair-of-byte, code-decode, byte-small, no-11, leftover-byte, whole-byte, byte-good}
 use Rattle.three.proofs.Pack.{getD-pack, length-pack, length-unpack, pair-pack, take-over}
 
 -- ---- a sound record
 
 abbrev pub goodByte : List ℕ → ℕ → Bool
-goodByte bytes k = not (eqb (judged (getD bytes k 0)) 255)
+goodByte bytes k = not (bad (pairs (getD bytes k 0)))
 
 pub sound-byte : (f : ℕ) (bytes : List ℕ) → sound f bytes ≡ true → (k : ℕ) → k < bytesFor f → bad (pairs (getD bytes k 0)) ≡ false
 unfolding sound
-sound-byte f bytes s k h = sym (judged-bad (getD bytes k 0)) ∙ not-true _ (every-at (bytesFor f) (goodByte bytes) (and-parts (every (bytesFor f) (goodByte bytes)) _ s .0) k h)
+sound-byte f bytes s k h = not-true _ (every-at (bytesFor f) (goodByte bytes) (and-parts (every (bytesFor f) (goodByte bytes)) _ s .0) k h)
 
 pub sound-pair : (f : ℕ) (bytes : List ℕ) → sound f bytes ≡ true → (i : ℕ) → i < 4 * bytesFor f → pairAt bytes i < 3
 unfolding pairAt
@@ -71,7 +72,7 @@ unfolding sound byteAt code
 sound-pack fs =
     let f : ℕ = length fs in
     let n : ℕ = bytesFor f in
-    let good = every-all n (goodByte (pack fs)) (λ k h. rw (judged-bad, getD-pack fs k h, byte-good)) in
+    let good = every-all n (goodByte (pack fs)) (λ k h. rw (getD-pack fs k h, byte-good)) in
     let small : getD (pack fs) (n - 1) 0 < 256 = rw (getD-pack fs (n - 1) (omega arith)) (byte-small _ _ _ _) in
     let blank = every-all (4 * n - f) (blankPair f (pack fs)) (λ e h. rw (pair-pack fs (4 * n - 1 - e) (omega arith), List·getD-eq-default fs unknown {n = 4 * n - 1 - e} (omega arith))) in
     ap₂ (λ x y. x && y) good (leftover-pairs f (pack fs) small ∙ blank)

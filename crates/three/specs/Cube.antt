@@ -26,8 +26,7 @@ subsumes (c ∷ cs) (b ∷ bs) = allows c b && subsumes cs bs
 
 -- X where told so
 unfoldable pub blank : Three → Bool → Three
-blank v true = unknown
-blank v false = v
+blank v told = elim told [ true ↦ unknown | false ↦ v ]
 
 -- known where both agree: source 002's a ∩ b
 unfoldable pub agree : Three → Three → Three
@@ -40,9 +39,7 @@ merged a b = adjust agree a b
 -- how many fields are known
 unfoldable pub knownFields : Cube → ℕ
 knownFields [] = 0
-knownFields (unknown ∷ vs) = knownFields vs
-knownFields (low ∷ vs) = suc (knownFields vs)
-knownFields (high ∷ vs) = suc (knownFields vs)
+knownFields (v ∷ vs) = elim v [ unknown ↦ knownFields vs | low ↦ suc (knownFields vs) | high ↦ suc (knownFields vs) ]
 
 -- a field holds a bit: X holds both, 0 and 1 their own
 pub data Holds : Three → Bool → Type 0 where

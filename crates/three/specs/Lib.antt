@@ -2,3 +2,4 @@ pub mod Lists
 pub mod Value
 pub mod Cube
 pub mod Record
+pub mod RecordInCode

@@ -1,8 +1,7 @@
 -- Records (specification, 2.7 and 2.8): two bits a field, field 0 in the most significant bits of byte 0. Assumes nothing.
-use mathlib.Core.Path.{_≡_}
-use mathlib.Core.Bool.{Bool, true, false, not, _&&_, _||_, cond}
+use mathlib.Core.Bool.{Bool, false, not, _&&_, _||_}
 use mathlib.Core.List.{List, [], _∷_}
-use Prim.Native.Nat.{ℕ, zero, suc, _+_, _*_, _-_, _/_, _%_, _^_, _≤_, max}
+use Prim.Native.Nat.{ℕ, _+_, _*_, _-_, _/_, _%_, _^_, max}
 use lib.Dec.{eqb}
 use lib.ListN.{length, getD}
 use Rattle.three.specs.Lists.{tabulate, every}
@@ -20,11 +19,7 @@ byteOf a b c d = 64 * code a + 16 * code b + 4 * code c + code d
 -- byte number k of a record: fields 4 × k to 4 × k + 3; leftover bits are 0, as those of an unknown field
 unfoldable pub byteAt : Cube → ℕ → ℕ
 byteAt fields k =
-    byteOf
-    (getD fields (4 * k) unknown)
-    (getD fields (4 * k + 1) unknown)
-    (getD fields (4 * k + 2) unknown)
-    (getD fields (4 * k + 3) unknown)
+    byteOf (getD fields (4 * k) unknown) (getD fields (4 * k + 1) unknown) (getD fields (4 * k + 2) unknown) (getD fields (4 * k + 3) unknown)
 
 -- the record of these fields
 unfoldable pub pack : Cube → List ℕ
@@ -47,29 +42,10 @@ unfoldable pub bad : List ℕ → Bool
 bad [] = false
 bad (p ∷ ps) = eqb p 3 || bad ps
 
--- how many pairs are known: not 00
-unfoldable pub knownPairs : List ℕ → ℕ
-knownPairs [] = 0
-knownPairs (zero ∷ ps) = knownPairs ps
-knownPairs (suc p ∷ ps) = suc (knownPairs ps)
-
--- what a record byte is judged to be: the count of its known fields, or 255 where some pair is 11
-unfoldable pub judged : ℕ → ℕ
-judged byte = cond (bad (pairs byte)) 255 (knownPairs (pairs byte))
-
--- what each of the 256 bytes is judged to be
-unfoldable pub knownTable : List ℕ
-knownTable = tabulate 256 judged
-
 -- the leftover bits of a record of f fields: the low bits of its last byte
 unfoldable pub leftover : ℕ → List ℕ → ℕ
 leftover f bytes = getD bytes (bytesFor f - 1) 0 % 4 ^ (4 * bytesFor f - f)
 
 -- a given record is not refused by 14: no byte has a pair 11, and no leftover bit is set
 unfoldable pub sound : ℕ → List ℕ → Bool
-sound f bytes = every (bytesFor f) (λ k. not (eqb (judged (getD bytes k 0)) 255)) && eqb (leftover f bytes) 0
-
--- the bytes open with a record of f fields
-pub record IsRecord (f : ℕ) (bytes : List ℕ) : Type 0 where
-  pub fits : bytesFor f ≤ length bytes
-  pub good : sound f bytes ≡ true
+sound f bytes = every (bytesFor f) (λ k. not (bad (pairs (getD bytes k 0)))) && eqb (leftover f bytes) 0

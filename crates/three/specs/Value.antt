@@ -1,8 +1,6 @@
 -- The values 0, 1 and X (specification, 2.1 to 2.3), and the two logics that a circuit is read in. Assumes nothing.
 use mathlib.Core.Bool.{Bool, true, false, not, _&&_}
-use mathlib.Core.List.{List}
 use Prim.Native.Nat.{ℕ, zero, suc}
-use Rattle.three.specs.Lists.{tabulate}
 
 -- X, 0 and 1
 pub data Three : Type 0 where
@@ -10,40 +8,25 @@ pub data Three : Type 0 where
 
 -- the two bits of a value in a record (specification, 2.7): 00 unknown, 01 known 0, 10 known 1
 unfoldable pub code : Three → ℕ
-code unknown = 0
-code low = 1
-code high = 2
+code v = elim v [ unknown ↦ 0 | low ↦ 1 | high ↦ 2 ]
 
 -- the value that two bits stand for; 11 stands for none, and is refused before it is read
 unfoldable pub decode : ℕ → Three
-decode zero = unknown
-decode (suc zero) = low
-decode (suc (suc n)) = high
+decode n = elim n [ zero ↦ unknown | suc zero ↦ low | suc (suc m) ↦ high ]
 
 -- a Boolean as a value
 unfoldable pub known : Bool → Three
-known false = low
-known true = high
+known b = elim b [ false ↦ low | true ↦ high ]
 
 -- the gate rule: 0 with anything is 0, 1 with 1 is 1, the rest X
 unfoldable pub both : Three → Three → Three
 both low b = low
-both high low = low
-both high high = high
-both high unknown = unknown
-both unknown low = low
-both unknown high = unknown
-both unknown unknown = unknown
-
--- the gate rule as a three by three table of answers, all in their two bits
-unfoldable pub gateTable : List (List ℕ)
-gateTable = tabulate 3 (λ a. tabulate 3 (λ b. code (both (decode a) (decode b))))
+both high b = b
+both unknown b = elim b [ low ↦ low | high ↦ unknown | unknown ↦ unknown ]
 
 -- inverting swaps 0 and 1 and keeps X
 unfoldable pub inverse : Three → Three
-inverse unknown = unknown
-inverse low = high
-inverse high = low
+inverse v = elim v [ unknown ↦ unknown | low ↦ high | high ↦ low ]
 
 -- What a circuit needs of the values that it is read in: the constant false, the gate rule and inversion
 pub record Logic (A : Type 0) : Type 0 where

@@ -3,9 +3,12 @@ ghost use mathlib.Core.Path.{_≡_};
 ghost use Prim.Native.Nat.{_*_, _<_, _≤_};
 ghost use lib.ListN.{length};
 ghost use Rattle.three.specs.Lists.{over};
-ghost use Rattle.three.specs.Value.{code, decode, both, gateTable};
+ghost use Rattle.three.specs.Value.{code, decode, both};
+ghost use Rattle.three.specs.RecordInCode.{gateTable};
 ghost use Rattle.three.specs.Cube.{merged, knownFields};
-ghost use Rattle.three.specs.Record.{bytesFor, byteOf, pack, pairAt, unpack, judged, knownTable, sound as soundRecord, IsRecord};
+ghost use Rattle.three.specs.Record.{bytesFor, byteOf, pack, pairAt, unpack, sound as soundRecord};
+ghost use Rattle.three.specs.RecordInCode.{judged};
+ghost use Rattle.three.specs.RecordInCode.{knownTable, IsRecord};
 
 // 0 with anything is 0, 1 with 1 is 1, the rest X
 const AND: [[u8; 3]; 3] = [[0, 1, 0], [1, 1, 1], [0, 1, 2]];

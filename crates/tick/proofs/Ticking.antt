@@ -8,7 +8,8 @@ use borrow.Author.Tests.{leb-true, le-leb, lt-leb}
 use lib.Dec.{leb}
 use lib.ListN.{length}
 use Rattle.three.specs.Lists.{over}
-use Rattle.three.specs.Record.{bytesFor, pack, sound, IsRecord}
+use Rattle.three.specs.Record.{bytesFor, pack, sound}
+use Rattle.three.specs.RecordInCode.{IsRecord}
 use Rattle.circuit.specs.declared.Counts.{Counts}
 use Rattle.circuit.specs.Circuit.{next, lamps}
 use Rattle.circuit.specs.Refusal.{Test, _or_, refusal}

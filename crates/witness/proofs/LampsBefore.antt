@@ -1,9 +1,9 @@
 -- "Lamps are read .. before the tick": on circuit T, whose lamp is its latch, the lamp shows the state that was given and not the next. Assumes nothing.
-use mathlib.Core.Path.{_≡_, refl, sym, ap, _∙_}
+use mathlib.Core.Path.{_≡_, sym, _∙_}
 use mathlib.Core.List.{List, [], _∷_}
 use Prim.Native.Nat.{ℕ}
-use Rattle.three.specs.Lists.{over, every}
-use Rattle.three.specs.Record.{pack, bad, judged, leftover, pairs, knownPairs, sound, unpack, pairAt}
+use Rattle.three.specs.Lists.{every}
+use Rattle.three.specs.Record.{bad, leftover, pairs, sound, unpack, pairAt}
 use Rattle.three.specs.Value.{decode}
 use Rattle.circuit.proofs.Refusals.{accepted-new}
 use Rattle.tick.specs.Tick.{recordTests, tickResultTests, tickTests, nextFields, lampFields, TickGiven, Ticked}
@@ -22,7 +22,7 @@ given a b = record {
 
 module _ (a b : ℕ) {number : ℕ} {next lamps : List ℕ} (ticked : Ticked (given a b) number next lamps) where
   taken : number ≡ 0
-  unfolding computed tickTests recordTests tickResultTests sound every judged bad pairs knownPairs leftover
+  unfolding computed tickTests recordTests tickResultTests sound every bad pairs leftover
   taken = ticked .answers
 
   pub next-state : next ≡ 0x80 ∷ []

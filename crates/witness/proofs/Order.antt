@@ -5,7 +5,7 @@ use mathlib.Core.List.{List, [], _∷_}
 use Prim.Native.Nat.{ℕ, zero, suc}
 use borrow.Author.Tests.{eqb-true}
 use lib.Dec.{eqb}
-use Rattle.three.specs.Record.{pairs, bad, knownPairs, judged, leftover, sound}
+use Rattle.three.specs.Record.{pairs, bad, leftover, sound}
 use Rattle.three.specs.Lists.{every}
 use Rattle.three.proofs.Lists.{and-parts}
 use Rattle.circuit.specs.Refusal.{leftBy}
@@ -33,7 +33,7 @@ unfolding tickNumber
 ticks-number g number allows = allows .ticked .answers
 
 ticks-computed : numbered tickNumber ticks ≡ true
-unfolding computed numbered tickNumber ticks tickTests recordTests tickResultTests sound every judged bad knownPairs pairs leftover
+unfolding computed numbered tickNumber ticks tickTests recordTests tickResultTests sound every bad pairs leftover
 ticks-computed = refl
 
 pub tick-order : AsNumbered TickAllows ticks

@@ -11,7 +11,7 @@ use Rattle.three.specs.Lists.{tabulate}
 use Rattle.three.specs.Value.{boolean, unknown, known}
 use Rattle.three.specs.Record.{unpack}
 use Rattle.circuit.specs.Circuit.{signed, value, pass, settle, readings}
-use Rattle.circuit.specs.Table.{circuitOf, gatesFrom}
+use Rattle.circuit.specs.Table.{circuitOf}
 use Rattle.cubes.specs.declared.RunAnswer.{RunAnswer}
 use Rattle.cubes.specs.Execution.{Execution, settings, stateAfter, lampsAfter}
 use Rattle.cubes.specs.Call.{circuitIn, Runs}
@@ -32,12 +32,12 @@ alike-elsewhere t tick other = ap (λ (b : Bool). b ∷ []) (sym (ne-eqb tick t 
 module _ (e : Execution circuit) (t : ℕ) where
   -- the latch has what the switch was
   latch-follows : stateAfter e (suc t) ≡ e .switches t 0 ∷ []
-  unfolding stateAfter settings readings settle pass value signed boolean circuitOf gatesFrom tabulate
+  unfolding stateAfter settings readings settle pass value signed boolean circuitOf tabulate
   latch-follows = refl
 
   -- the lamp is on where the switch was on and is off
   lamp-follows : lampsAfter e (suc t) ≡ (e .switches t 0 && not (e .switches (suc t) 0)) ∷ []
-  unfolding lampsAfter stateAfter settings readings settle pass value signed boolean circuitOf gatesFrom tabulate
+  unfolding lampsAfter stateAfter settings readings settle pass value signed boolean circuitOf tabulate
   lamp-follows = refl
 
 -- after tick t their states differ
@@ -54,7 +54,7 @@ off-with-inverse true = refl
 off-with-inverse false = refl
 
 pub dark-when-constant : (v : Bool) (t : ℕ) → lampsAfter (always v) t ≡ false ∷ []
-unfolding lampsAfter stateAfter settings readings settle pass value signed boolean circuitOf gatesFrom tabulate under
+unfolding lampsAfter stateAfter settings readings settle pass value signed boolean circuitOf tabulate under
 dark-when-constant v zero = refl
 dark-when-constant v (suc t) = lamp-follows (always v) t ∙ ap (λ (b : Bool). b ∷ []) (off-with-inverse v)
 

@@ -8,7 +8,8 @@ use lib.Bits.{bitAnd}
 use lib.ListN.{length, getD, set}
 use Rattle.three.specs.Lists.{over}
 use Rattle.three.specs.Cube.{merged}
-use Rattle.three.specs.Record.{bytesFor, pack, unpack, IsRecord}
+use Rattle.three.specs.Record.{bytesFor, pack, unpack}
+use Rattle.three.specs.RecordInCode.{IsRecord}
 use Rattle.three.proofs.Loops.{Stored, stored-first, stored-next, stored-last, over-paste, getD-paste}
 use Rattle.three.proofs.Pack.{length-pack, length-unpack}
 use Rattle.three.proofs.Merge.{length-merged}

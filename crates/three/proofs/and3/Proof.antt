@@ -1,6 +1,7 @@
 -- `three::and3` meets its contract: the lent table has the rule's answers. Assumes nothing.
 use borrow.Author.Needs.{needs}
-use Rattle.three.specs.Value.{code, decode, both, gateTable}
+use Rattle.three.specs.Value.{code, decode, both}
+use Rattle.three.specs.RecordInCode.{gateTable}
 use Rattle.three.proofs.Table.{entry-of-row}
 use Rattle.three.proofs.and3.Statement.{statement}
 use Rattle.three.proofs.and3.Tie as tie

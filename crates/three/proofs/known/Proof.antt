@@ -1,7 +1,7 @@
 -- `three::known` meets its contract: the lent table has the rule's answers. Assumes nothing.
 use native.Mathlib.Omega.{arith}
 use borrow.Author.Needs.{needs}
-use Rattle.three.specs.Record.{judged, knownTable}
+use Rattle.three.specs.RecordInCode.{judged, knownTable}
 use Rattle.three.proofs.Table.{entry}
 use Rattle.three.proofs.known.Statement.{statement}
 use Rattle.three.proofs.known.Tie as tie

@@ -9,9 +9,11 @@ use borrow.Author.Tests.{eq-eqb, ne-eqb}
 use lib.Dec.{eqb}
 use lib.ListN.{getD}
 use Rattle.three.specs.Lists.{tabulate}
-use Rattle.three.specs.Record.{bytesFor, judged, leftover, sound}
+use Rattle.three.specs.Record.{bytesFor, leftover, sound}
+use Rattle.three.specs.RecordInCode.{judged}
 use Rattle.three.proofs.Loops.{Tried, tried-first, tried-next, tried-fails, tried-all}
 use Rattle.three.proofs.Table.{same-answers}
+use Rattle.three.proofs.Bytes.{judged-bad}
 use Rattle.three.proofs.Soundness.{goodByte}
 use Rattle.three.proofs.sound.Statement.{statement}
 use Rattle.three.proofs.sound.Tie as tie
@@ -29,7 +31,7 @@ unit-pos n h = rw (unit-power n h) (one-le-pow n 4 (omega arith))
 
 refused : (bytes : List ℕ) (f k : ℕ) → k < bytesFor f → judged (getD bytes k 0) ≡ 255 → false ≡ sound f bytes
 unfolding sound
-refused bytes f k h e = ap (λ t. t && eqb (leftover f bytes) 0) (tried-fails (bytesFor f) (goodByte bytes) h refl (ap not (eq-eqb _ _ e)))
+refused bytes f k h e = ap (λ t. t && eqb (leftover f bytes) 0) (tried-fails (bytesFor f) (goodByte bytes) h refl (ap not (sym (judged-bad (getD bytes k 0)) ∙ eq-eqb _ _ e)))
 
 accepted : (bytes : List ℕ) (f n k : ℕ) → n ≡ bytesFor f → Tried n (goodByte bytes) k → n ≤ k → eqb (getD bytes (n - 1) 0 % unit (4 * n - f)) 0 ≡ sound f bytes
 unfolding sound leftover
@@ -63,7 +65,7 @@ loop-less : tie.Need-loop-less Inv-loop μ-loop
 loop-less c = omega arith
 
 loop-again : tie.Need-loop-again Inv-loop μ-loop
-loop-again c = tried-next _ _ (c .before .before .before .before .loop .inv) (omega arith) refl (ap not (ne-eqb _ _ (λ e. c .if1 .left (c .before .known .ensures ∙ e))))
+loop-again c = tried-next _ _ (c .before .before .before .before .loop .inv) (omega arith) refl (ap not (sym (judged-bad _) ∙ ne-eqb _ _ (λ e. c .if1 .left (c .before .known .ensures ∙ e))))
 
 sub-last : tie.Need-sub-last Inv-loop μ-loop
 sub-last c = omega arith
