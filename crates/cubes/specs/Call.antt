@@ -41,8 +41,7 @@ runResultTests c verdict settled = leb (bytesFor (c .lamps)) verdict or 10 ∷ l
 -- 3, 10 for the table, 11, 12, 13, 10 for results; the buffers by their lengths
 unfoldable pub runTests : Counts → List ℕ → ℕ → ℕ → ℕ → ℕ → List Test
 runTests c table w cubes verdict settled =
-    boardTests c table
-    ++ (leb w 1000 or 12 ∷ leb (cubeBytes (c .latches)) cubes or 13 ∷ leb cubes 65536 or 13 ∷ runResultTests c verdict settled)
+    boardTests c table ++ (leb w 1000 or 12 ∷ leb (cubeBytes (c .latches)) cubes or 13 ∷ leb cubes 65536 or 13 ∷ runResultTests c verdict settled)
 
 -- What a run is given: counts, table, w, and the three buffers as they are lent
 pub record RunGiven : Type 0 where

@@ -25,8 +25,7 @@ module _ (g : RunGiven) (r : RunAnswer) (cubes verdict settled : List ℕ) where
     -- "never" (false) is dark at every tick, "always" (true) lit
     pub judged : (i : ℕ) (v : Bool) → getD (unpack (g .counts .lamps) verdict) i unknown ≡ known v → (t : ℕ) → getD (lampsAfter e t) i false ≡ v
     -- a settled latch keeps its value from tick j on
-    pub keeps : (i : ℕ) (v : Bool) → getD (unpack (g .counts .latches) settled) i unknown ≡ known v
-        → (t : ℕ) → r .back ≤ t → getD (stateAfter e t) i false ≡ v
+    pub keeps : (i : ℕ) (v : Bool) → getD (unpack (g .counts .latches) settled) i unknown ≡ known v → (t : ℕ) → r .back ≤ t → getD (stateAfter e t) i false ≡ v
 
   pub record Promises : Type 0 where
     -- a closed run covers every execution, under any switch sequence

@@ -10,7 +10,7 @@ use lib.Dec.{ltb}
 use lib.ListN.{length, getD, set, take, length-set, length-take, List·getD-eq-default}
 use lib.Seq.{take-suc-set, getD-take, length-take-le}
 use Rattle.text.specs.Part.{Part, got, ill}
-use Rattle.text.specs.Line.{prepend, splitLine, readLine}
+use Rattle.text.specs.Line.{prepend, splitLine}
 use Rattle.lines.specs.LinesInCode.{mostNumbers, from, linePart, lineEnd, FoundInLine, counted, Shape, numbersOf, LineFound}
 use Rattle.lines.specs.declared.ReadLine.{ReadLine}
 use Rattle.lines.specs.declared.InLine.{InLine}

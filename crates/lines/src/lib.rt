@@ -5,11 +5,9 @@ ghost use Prim.Native.Nat.{ℕ, _≤_, _<_};
 ghost use lib.ListN.{length, getD};
 ghost use Rattle.text.specs.Decimal.{mayGrow, readNumber};
 ghost use Rattle.text.specs.Text.{resetWord};
-ghost use Rattle.text.specs.Line.{mostNumbers, splitLine};
-ghost use Rattle.lines.specs.LinesInCode.{mostNumbers};
-ghost use Rattle.text.specs.Line.{readLine};
+ghost use Rattle.text.specs.Line.{splitLine};
+ghost use Rattle.lines.specs.LinesInCode.{mostNumbers, from, leading, NumberFound, endingBytes, EndingAt, FoundInLine, numbersOf, LineFound};
 ghost use Rattle.text.specs.Part.{ill};
-ghost use Rattle.lines.specs.LinesInCode.{from, leading, NumberFound, endingBytes, EndingAt, FoundInLine, numbersOf, LineFound};
 
 // A number at a position, and the position behind it.
 pub enum ReadNumber {

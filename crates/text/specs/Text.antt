@@ -9,7 +9,7 @@ use Rattle.circuit.specs.declared.Counts.{Counts}
 use Rattle.circuit.specs.Refusal.{Test, _or_}
 use Rattle.circuit.specs.Table.{variables, top, ceilingTests, Kind, input, latch, literal, gate, kinds, width, rowTests}
 use Rattle.text.specs.Part.{Part, got, ill}
-use Rattle.text.specs.Line.{newline, lineText, strip, readLine, splitLine, mostNumbers}
+use Rattle.text.specs.Line.{newline, lineText, strip, readLine, splitLine}
 use Rattle.text.specs.Outcome.{Outcome, accepted, refused, tested, further, onward}
 
 -- `aag` and a space

@@ -16,8 +16,7 @@ use Rattle.circuit.specs.Table.{circuitOf, circuitTests}
 -- 10 for given records, 14
 unfoldable pub recordTests : Counts → List ℕ → List ℕ → List Test
 recordTests c state switches =
-    leb (bytesFor (c .latches)) (length state) or 10 ∷ leb (bytesFor (c .inputs)) (length switches) or 10
-    ∷ sound (c .latches) state or 14 ∷ sound (c .inputs) switches or 14 ∷ []
+    leb (bytesFor (c .latches)) (length state) or 10 ∷ leb (bytesFor (c .inputs)) (length switches) or 10 ∷ sound (c .latches) state or 14 ∷ sound (c .inputs) switches or 14 ∷ []
 
 -- 10 for results, by their lengths
 unfoldable pub tickResultTests : Counts → ℕ → ℕ → List Test

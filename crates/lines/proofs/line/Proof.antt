@@ -1,7 +1,7 @@
 -- `lines::line` meets its contract: each number is found in turn, as `Pieces` says. Assumes nothing.
 use Prim.Native.Nat.{_-_}
 use mathlib.Core.Path.{refl}
-use Rattle.lines.specs.LinesInCode.{mostNumbers, endingBytes}
+use Rattle.lines.specs.LinesInCode.{endingBytes}
 use Rattle.lines.proofs.Finding.{Pieces, pieces-first, pieces-end, pieces-ill, pieces-last, pieces-more}
 use native.Mathlib.Omega.{arith}
 use Rattle.lines.proofs.line.Statement.{statement}
