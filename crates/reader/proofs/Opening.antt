@@ -10,7 +10,7 @@ use Rattle.three.proofs.Lists.{by-test}
 use Rattle.text.specs.Part.{ill}
 use Rattle.text.specs.Line.{strip, splitLine}
 use Rattle.text.specs.Text.{magic, header, countsOf, headerTests}
-use Rattle.lines.specs.LinesInCode.{from, Shape, numbersOf}
+use Rattle.lines.specs.LinesInCode.{from, Shape, numbersOf, mostNumbers}
 use Rattle.reader.specs.ReaderInCode.{opened}
 use Rattle.text.proofs.Parts.{by-part}
 use Rattle.text.proofs.Lines.{opening, strip-short, strip-alike, strip-unlike}
@@ -44,7 +44,7 @@ module _ (text : List ℕ) where
   unfolding opened header
   header-none ending e f = by-part (strip magic text) (λ u r g. absurd (true≢false (sym (rw (opened, g) at e) ∙ f))) (λ g. rw (header, g))
 
-  pub header-line : (ending : List ℕ) {b : Bool} → b ≡ opened text → b ≡ true → header ending text ≡ splitLine ending 5 (from text 4)
+  pub header-line : (ending : List ℕ) {b : Bool} → b ≡ opened text → b ≡ true → header ending text ≡ splitLine ending mostNumbers (from text 4)
   unfolding header from
   header-line ending e t =
       let h = opened-long e t in
