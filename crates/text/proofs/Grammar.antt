@@ -1,5 +1,4 @@
--- Which texts are read, and as what: a text is accepted exactly when it describes the circuit, which 3, 10 and 11 do not
--- refuse, by its first line and a line for each kind, and ends there or in a comment (specification, 4.8). Assumes nothing.
+-- Which texts are accepted, exactly those that describe a circuit which 3, 10 and 11 do not refuse, and as what they are read (specification, 4.8). Assumes nothing.
 use mathlib.Core.Path.{_≡_, refl, _∙_, ap}
 use mathlib.Core.Bool.{true, false≢true}
 use mathlib.Core.List.{List, [], _∷_, _++_}
