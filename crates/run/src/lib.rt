@@ -10,7 +10,7 @@ ghost use Rattle.circuit.specs.Refusal.{refusal};
 
 // Interval w is 0 to 1,000.
 const MOST_INTERVAL: usize = 1000;
-// Cube buffer .. over 65,536 bytes.
+// A cube buffer has at most 65,536 bytes.
 const MOST_CUBE_BYTES: usize = 65536;
 
 // The refusals of a run before 15, in order, for buffers of these lengths; 0 for none.
