@@ -9,37 +9,20 @@ use lib.Seq.{sets, length-sets}
 use Rattle.three.specs.Lists.{over}
 use Rattle.circuit.specs.declared.Counts.{Counts}
 use Rattle.circuit.specs.RulesInCode.{Passed}
-use Rattle.circuit.specs.Table.{top, Kind, input, latch, gate, several, rowTests, literal}
+use Rattle.circuit.specs.Table.{top, Kind, input, latch, gate, several, rowTests, literal, kinds, literals}
 use Rattle.text.specs.Line.{readLine}
 use Rattle.text.specs.Outcome.{accepted, leaves}
-use Rattle.text.specs.Text.{resetWord, words, lineTests, Lines, readLines}
+use Rattle.text.specs.Text.{words, lineTests, Lines, readLines}
 use Rattle.lines.specs.declared.ReadLine.{ReadLine}
 use Rattle.lines.specs.LinesInCode.{from, numbersOf, LineFound}
-use Rattle.reader.specs.ReaderInCode.{pairOf, WordsFit, linesOf, bodyWords, Stand, stand, Fillable, Filled}
+use Rattle.reader.specs.declared.Place.{Place}
+use Rattle.reader.specs.ReaderInCode.{WordsFit, linesOf, bodyWords, Stand, stand, Fillable, Filled, KindFillable, KindFilled}
+use Rattle.text.specs.KindsInCode.{coded}
 use Rattle.text.proofs.Steps.{LineRead, line-accepted, line-numbered}
 use Rattle.text.proofs.Outcomes.{accepted-same}
 use Rattle.lines.proofs.Finding.{line-read}
 use Rattle.text.proofs.Stores.{sets-append, sets-front}
 use Rattle.text.proofs.Tables.{linesFrom, lines-first, lines-next, lines-last}
-
--- ---- the words of a line, kind by kind
-
-module _ (own : ℕ) (ns : List ℕ) where
-  pub input-words : [] ≡ words (input own) ns
-  unfolding words
-  input-words = refl
-
-  pub latch-words : {r : ℕ} → r ≡ resetWord (getD ns 0 0) (getD ns 2 0) → pairOf ns r ≡ words (latch own) ns
-  unfolding words
-  latch-words e = rw e
-
-  pub gate-words : {r : ℕ} → r ≡ getD ns 2 0 → pairOf ns r ≡ words (gate own) ns
-  unfolding words
-  gate-words e = rw e
-
-pub lamp-words : (ns : List ℕ) → getD ns 0 0 ∷ [] ≡ words literal ns
-unfolding words
-lamp-words ns = refl
 
 -- words that nothing refuses have 16 bits
 words-small : (most : ℕ) (k : Kind) (ns : List ℕ) → most < 65536 → Passed (lineTests most k ns) → (i : ℕ) → getD (words k ns) i 0 < 65536
@@ -97,10 +80,10 @@ filled-none f = record { left = f; long = refl; same = refl }
 pub filled-then : {ending text : List ℕ} {c : Counts} {s t u : Stand} → Filled ending text c s t → Filled ending text c t u → Filled ending text c s u
 filled-then a b = record { left = b .left; long = b .long ∙ a .long; same = b .same ∙ a .same }
 
-pub filled-whole : {ending text : List ℕ} {c : Counts} {ks : List Kind} {at next p : ℕ} {table table′ : List ℕ} → Fillable ending text c (stand ks at 0 table)
+filled-over : {ending text : List ℕ} {c : Counts} {ks : List Kind} {at next p : ℕ} {table table′ : List ℕ} → Fillable ending text c (stand ks at 0 table)
     → Filled ending text c (stand ks at 0 table) (stand [] next p table′) → table′ ≡ over (bodyWords ending c ks (from text at)) table
 unfolding readLines
-filled-whole {p = p} {table = table} {table′ = table′} f a =
+filled-over {p = p} {table = table} {table′ = table′} f a =
     let none : [] ≡ _ = ap (λ (l : Lines). l .words) (accepted-same (a .left .accepts)) in
     ap (sets table′ p) none ∙ a .same ∙ sets-front table _ (omega (arith, f .room))
 
@@ -128,3 +111,29 @@ module _ {ending text : List ℕ} {c : Counts} {kind : ℕ → Kind} {own n : �
 
     pub filling-last : {q : ℕ} → n ≤ i → q ≡ p → Filled ending text c s (stand ks next q table)
     filling-last h e = rw (e, ← (lines-last kind own n ks i h)) (f .on)
+
+-- ---- the four kinds in turn
+
+module _ {ending text : List ℕ} {c : Counts} {at : ℕ} {table : List ℕ} (f : Fillable ending text c (stand (kinds c) at 0 table)) where
+  unfoldable pub inputs-due : KindFillable ending text (coded 0) (c .inputs) (record { at = at; word = 0 }) table
+  unfolding coded kinds
+  inputs-due = record { counts = c; own = _; behind = _; all = f }
+
+  module _ {p : Place} {t : List ℕ} (inputs : KindFilled ending text (coded 0) (c .inputs) (record { at = at; word = 0 }) table p t) where
+    unfoldable pub latches-due : KindFillable ending text (coded 1) (c .latches) p t
+    unfolding coded inputs-due
+    latches-due = record { counts = c; own = _; behind = _; all = inputs inputs-due .left }
+
+    module _ {q : Place} {u : List ℕ} (latches : KindFilled ending text (coded 1) (c .latches) p t q u) where
+      unfoldable pub lamps-due : KindFillable ending text (coded 2) (literals c) q u
+      unfolding coded inputs-due latches-due
+      lamps-due = record { counts = c; own = _; behind = _; all = latches latches-due .left }
+
+      module _ {r : Place} {v : List ℕ} (lamps : KindFilled ending text (coded 2) (literals c) q u r v) where
+        unfoldable pub gates-due : KindFillable ending text (coded 3) (c .gates) r v
+        unfolding coded inputs-due latches-due lamps-due
+        gates-due = record { counts = c; own = _; behind = _; all = lamps lamps-due .left }
+
+        pub filled-whole : {s : Place} {w : List ℕ} → KindFilled ending text (coded 3) (c .gates) r v s w → w ≡ over (bodyWords ending c (kinds c) (from text at)) table
+        unfolding coded inputs-due latches-due lamps-due gates-due
+        filled-whole gates = filled-over f (filled-then (filled-then (filled-then (inputs inputs-due) (latches latches-due)) (lamps lamps-due)) (gates gates-due))

@@ -1,7 +1,7 @@
 -- What the functions of the reader answer: positions in place of the texts that are left; nothing here has to be believed. Assumes nothing.
 use mathlib.Core.Path.{_≡_}
 use mathlib.Core.Bool.{Bool, true, false}
-use mathlib.Core.List.{List, [], _∷_}
+use mathlib.Core.List.{List, []}
 use Prim.Native.Nat.{ℕ, _+_, _*_, _≤_, _<_}
 use lib.ListN.{length, getD}
 use lib.Seq.{sets}
@@ -11,6 +11,7 @@ use Rattle.circuit.specs.Table.{top, Kind, input, latch, gate, several, kinds, 
 use Rattle.circuit.specs.RulesInCode.{Bounded}
 use Rattle.reader.specs.declared.Judged.{Judged}
 use Rattle.reader.specs.declared.Judgement.{Judgement}
+use Rattle.reader.specs.declared.Place.{Place}
 use Rattle.reader.specs.declared.Judgement.the-variants.{Refused, Body}
 use Rattle.text.specs.Part.{got, ill}
 use Rattle.text.specs.Line.{strip}
@@ -62,24 +63,10 @@ TextJudged ending text (Body c at) = BodyAt ending text c at
 
 -- ---- the second pass
 
--- the second number of a line, and another word
-abbrev pub pairOf : List ℕ → ℕ → List ℕ
-pairOf ns second = getD ns 1 0 ∷ second ∷ []
-
 -- Words of 16 bits, and a table with room for them from word p on
 pub record WordsFit (ws : List ℕ) (p : ℕ) (table : List ℕ) : Type 0 where
   pub small : (i : ℕ) → getD ws i 0 < 65536
   pub room : p + length ws ≤ length table
-
--- the lines from the first gate, from the first lamp and from the first latch on
-abbrev pub gatesOn : Counts → List Kind
-gatesOn c = several gate (2 + 2 * c .inputs + 2 * c .latches) (c .gates) []
-
-abbrev pub lampsOn : Counts → List Kind
-lampsOn c = several (λ own. literal) 0 (literals c) (gatesOn c)
-
-abbrev pub latchesOn : Counts → List Kind
-latchesOn c = several latch (2 + 2 * c .inputs) (c .latches) (lampsOn c)
 
 -- Where the second pass stands: the lines left, the position of the first, the word of the table that is next, and the table
 pub record Stand : Type 0 where
@@ -107,3 +94,15 @@ pub record Filled (ending text : List ℕ) (c : Counts) (s t : Stand) : Type 0 w
   pub left : Fillable ending text c t
   pub long : length (t .table) ≡ length (s .table)
   pub same : sets (t .table) (t .word) (wordsLeft ending text c t) ≡ sets (s .table) (s .word) (wordsLeft ending text c s)
+
+-- Lines of one kind stand at a place, in front of others of a body that nothing refuses
+pub record KindFillable (ending text : List ℕ) (kind : ℕ → Kind) (n : ℕ) (p : Place) (table : List ℕ) : Type 0 where
+  pub counts : Counts
+  pub own : ℕ
+  pub behind : List Kind
+  pub all : Fillable ending text counts (stand (several kind own n behind) (p .at) (p .word) table)
+
+-- and the pass has come to the others
+abbrev pub KindFilled : (ending text : List ℕ) (kind : ℕ → Kind) (n : ℕ) (p : Place) (table : List ℕ) → Place → List ℕ → Type 0
+KindFilled ending text kind n p table q table′ =
+    (f : KindFillable ending text kind n p table) → Filled ending text (f .counts) (stand (several kind (f .own) n (f .behind)) (p .at) (p .word) table) (stand (f .behind) (q .at) (q .word) table′)

@@ -12,16 +12,16 @@ use text::MAGIC;
 ghost use mathlib.Core.Path.{_≡_};
 ghost use Prim.Native.Nat.{ℕ, _≤_, _<_, _+_, _*_};
 ghost use lib.ListN.{length};
-ghost use mathlib.Core.List.{List, [], _∷_};
+ghost use mathlib.Core.List.{[], _∷_};
 ghost use lib.Seq.{sets};
 ghost use Rattle.three.specs.Lists.{over};
 ghost use Rattle.circuit.specs.Refusal.{refusal};
-ghost use Rattle.circuit.specs.Table.{top, input, latch, literal, gate, several, kinds, literalsAt, gatesAt};
+ghost use Rattle.circuit.specs.Table.{top, input, latch, literal, gate, several, kinds};
 ghost use Rattle.circuit.specs.RulesInCode.{Bounded};
-ghost use Rattle.text.specs.Text.{lineTests, ends, header as firstLine, countsOf, headerTests};
+ghost use Rattle.text.specs.Text.{words, lineTests, ends, header as firstLine, countsOf, headerTests};
 ghost use Rattle.text.specs.Calls.{zeros, Reading};
 ghost use Rattle.lines.specs.LinesInCode.{from, endingBytes, Shape, numbersOf, LineFound};
-ghost use Rattle.reader.specs.ReaderInCode.{opened, LinesJudged, kindsThen, TextJudged, pairOf, WordsFit, bodyWords, stand, latchesOn, lampsOn, gatesOn, Fillable, Filled};
+ghost use Rattle.reader.specs.ReaderInCode.{opened, LinesJudged, kindsThen, TextJudged, WordsFit, bodyWords, stand, Fillable, KindFillable, KindFilled};
 ghost use Rattle.text.specs.KindsInCode.{coded};
 
 // At most 60,000 bytes.
@@ -307,70 +307,59 @@ fn judge(text: &[u8], ending: Ending) -> Judgement
     Judgement::Body(counts, first.next)
 }
 
-// A line's two words, stored from word p on; the first is its second number.
-fn fill_pair(found: ReadLine, second: usize, table: &mut [u16], p: usize)
-    requires { ⌜ WordsFit (pairOf (numbersOf found) second) p (now table) ⌝ }
-    ensures { λ _. ⌜ now (table .exit) ≡ sets (now (table .entry)) p (pairOf (numbersOf found) second) ⌝ }
-{
-    table[p] = lines::entry(found, 1) as u16;
-    table[p + 1] = second as u16;
+// Where the second pass stands: in the text and in the table.
+struct Place {
+    at: usize,
+    word: usize,
 }
 
-// The lines of the inputs have no words; the position behind them.
-fn skip_inputs(text: &[u8], at: usize, ending: Ending, counts: Counts) -> usize
-    requires { ⌜ at ≤ length (now text) ⌝ }
-    ensures { λ r. ⌜ ((table : List ℕ) → Fillable (endingBytes ending) (now (text .entry)) counts (stand (kinds counts) at 0 table) → Filled (endingBytes ending) (now (text .entry)) counts (stand (kinds counts) at 0 table) (stand (latchesOn counts) r 0 table)) ⌝ }
+// A word stored; the place behind it.
+fn fill_word(value: usize, table: &mut [u16], word: usize) -> usize
+    requires { ⌜ (value < 65536) × (word < length (now table)) ⌝ }
+    ensures { λ r. ⌜ (now (table .exit) ≡ sets (now (table .entry)) word (value ∷ [])) × (r ≡ word + 1) ⌝ }
 {
-    let mut next = at;
-    for i in 0..counts.inputs {
-        let found = lines::line(text, next, ending, BODY_NUMBERS);
-        next = found.next;
-    }
-    next
+    table[word] = value as u16;
+    word + 1
 }
 
-// For each latch its next literal and its reset; the position behind the lines.
-fn fill_latches(text: &[u8], at: usize, ending: Ending, counts: Counts, table: &mut [u16]) -> usize
-    requires { ⌜ Fillable (endingBytes ending) (now text) counts (stand (latchesOn counts) at 0 (now table)) ⌝ }
-    ensures { λ r. ⌜ Filled (endingBytes ending) (now (text .entry)) counts (stand (latchesOn counts) at 0 (now (table .entry))) (stand (lampsOn counts) r (literalsAt counts) (now (table .exit))) ⌝ }
+// The words of a line of a kind, stored from a word of the table on; the word behind them.
+fn fill_line(kind: u8, found: ReadLine, table: &mut [u16], word: usize) -> usize
+    requires { ⌜ WordsFit (words (coded kind 0) (numbersOf found)) word (now table) ⌝ }
+    ensures { λ r. ⌜ (now (table .exit) ≡ sets (now (table .entry)) word (words (coded kind 0) (numbersOf found))) × (r ≡ word + length (words (coded kind 0) (numbersOf found))) ⌝ }
 {
-    let mut next = at;
-    for i in 0..counts.latches {
-        let found = lines::line(text, next, ending, BODY_NUMBERS);
-        fill_pair(found, lines::reset_word(found), table, 2 * i);
-        next = found.next;
+    if kind == INPUT_LINE {
+        return word;
     }
-    next
+    if kind == LAMP_LINE {
+        return fill_word(lines::entry(found, 0), table, word);
+    }
+    let second = fill_word(lines::entry(found, 1), table, word);
+    if kind == LATCH_LINE {
+        return fill_word(lines::reset_word(found), table, second);
+    }
+    fill_word(lines::entry(found, 2), table, second)
 }
 
-// Then the lamp literals; the position behind the lines.
-fn fill_lamps(text: &[u8], at: usize, ending: Ending, counts: Counts, table: &mut [u16]) -> usize
-    requires { ⌜ Fillable (endingBytes ending) (now text) counts (stand (lampsOn counts) at (literalsAt counts) (now table)) ⌝ }
-    ensures { λ r. ⌜ Filled (endingBytes ending) (now (text .entry)) counts (stand (lampsOn counts) at (literalsAt counts) (now (table .entry))) (stand (gatesOn counts) r (gatesAt counts) (now (table .exit))) ⌝ }
+// Lines of one kind; the place behind them.
+fn fill_lines(
+    text: &[u8],
+    start: Place,
+    ending: Ending,
+    kind: u8,
+    count: usize,
+    table: &mut [u16],
+) -> Place
+    requires { ⌜ KindFillable (endingBytes ending) (now text) (coded kind) count start (now table) ⌝ }
+    ensures { λ r. ⌜ KindFilled (endingBytes ending) (now (text .entry)) (coded kind) count start (now (table .entry)) r (now (table .exit)) ⌝ }
 {
-    let first = circuit::literals_at(counts);
-    let mut next = at;
-    for i in 0..circuit::literals(counts) {
-        let found = lines::line(text, next, ending, BODY_NUMBERS);
-        table[first + i] = lines::entry(found, 0) as u16;
-        next = found.next;
+    let mut at = start.at;
+    let mut word = start.word;
+    for i in 0..count {
+        let found = lines::line(text, at, ending, BODY_NUMBERS);
+        word = fill_line(kind, found, table, word);
+        at = found.next;
     }
-    next
-}
-
-// Then two operands a gate; the position behind the lines.
-fn fill_gates(text: &[u8], at: usize, ending: Ending, counts: Counts, table: &mut [u16]) -> usize
-    requires { ⌜ Fillable (endingBytes ending) (now text) counts (stand (gatesOn counts) at (gatesAt counts) (now table)) ⌝ }
-    ensures { λ r. ⌜ Filled (endingBytes ending) (now (text .entry)) counts (stand (gatesOn counts) at (gatesAt counts) (now (table .entry))) (stand [] r (gatesAt counts + 2 * counts .gates) (now (table .exit))) ⌝ }
-{
-    let first = circuit::gates_at(counts);
-    let mut next = at;
-    for i in 0..counts.gates {
-        let found = lines::line(text, next, ending, BODY_NUMBERS);
-        fill_pair(found, lines::entry(found, 2), table, first + 2 * i);
-        next = found.next;
-    }
-    next
+    Place { at: at, word: word }
 }
 
 // The words of a body that nothing refuses, into the front of the table.
@@ -378,10 +367,18 @@ fn fill(text: &[u8], at: usize, ending: Ending, counts: Counts, table: &mut [u16
     requires { ⌜ Fillable (endingBytes ending) (now text) counts (stand (kinds counts) at 0 (now table)) ⌝ }
     ensures { λ _. ⌜ now (table .exit) ≡ over (bodyWords (endingBytes ending) counts (kinds counts) (from (now (text .entry)) at)) (now (table .entry)) ⌝ }
 {
-    let latches = skip_inputs(text, at, ending, counts);
-    let lamps = fill_latches(text, latches, ending, counts, table);
-    let gates = fill_lamps(text, lamps, ending, counts, table);
-    fill_gates(text, gates, ending, counts, table);
+    let body = Place { at: at, word: 0 };
+    let latches = fill_lines(text, body, ending, INPUT_LINE, counts.inputs, table);
+    let lamps = fill_lines(text, latches, ending, LATCH_LINE, counts.latches, table);
+    let gates = fill_lines(
+        text,
+        lamps,
+        ending,
+        LAMP_LINE,
+        circuit::literals(counts),
+        table,
+    );
+    fill_lines(text, gates, ending, GATE_LINE, counts.gates, table);
 }
 
 // The answer of the reader: the number of a refusal, or 0 with I, L, O and A.
