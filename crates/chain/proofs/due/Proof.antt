@@ -7,11 +7,8 @@ use Rattle.chain.proofs.due.Tie as tie
 returns : tie.Need-returns
 returns c = never-due _ _ (c .if1 .taken)
 
-rem-result : tie.Need-rem-result
-rem-result c = search needs
-
 returns-2 : tie.Need-returns-2
 returns-2 c = due-divides _ _ (c .if1 .left)
 
 pub due-spec : {M : Type 1} → statement M
-due-spec = tie.close (tie.spec returns rem-result returns-2)
+due-spec = tie.close (tie.spec returns (λ c. search needs) returns-2)

@@ -9,11 +9,8 @@ use Rattle.chain.proofs.held_after.Tie as tie
 returns : tie.Need-returns
 returns c = held-same _ _ _ _ (not-true _ (c .if1 .taken))
 
-widen-requires : tie.Need-widen-requires
-widen-requires c κs = search needs
-
 returns-2 : tie.Need-returns-2
 returns-2 c = c .widen .ensures ∙ held-wider _ _ _ _ (not-false _ (c .before .if1 .left))
 
 pub held-after-spec : {M : Type 1} → statement M
-held-after-spec = tie.close (tie.spec returns widen-requires returns-2)
+held-after-spec = tie.close (tie.spec returns (λ c κs. search needs) returns-2)

@@ -7,12 +7,6 @@ use borrow.Author.Needs.{needs}
 use Rattle.chain.proofs.make_chain.Statement.{statement}
 use Rattle.chain.proofs.make_chain.Tie as tie
 
-cube-bytes-requires : tie.Need-cube-bytes-requires
-cube-bytes-requires c κs = search needs
-
-store-start-requires : tie.Need-store-start-requires
-store-start-requires c κs = search needs
-
 div-follow : tie.Need-div-follow
 div-follow c = omega (arith, some-bytes (c .before .before .before .before .before .before .before .args .counts .latches))
 
@@ -20,9 +14,6 @@ follow-requires : tie.Need-follow-requires
 follow-requires c κs =
     let pre = c .before .before .before .before .before .before .before .before .pre in
     start-followable _ _ 0 _ _ (pre .1) (c .before .before .before .store-start .ensures) (pre .0) (pre .2) _ _ (c .before .before .before .before .before .cube-bytes .ensures) refl
-
-same-length : tie.Need-same-length
-same-length c = search needs
 
 returns : tie.Need-returns
 returns c =
@@ -33,9 +24,9 @@ pub make-chain-spec : {M : Type 1} → statement M
 make-chain-spec =
     tie.close
     (tie.spec
-    cube-bytes-requires
-    store-start-requires
+    (λ c κs. search needs)
+    (λ c κs. search needs)
     div-follow
     follow-requires
-    same-length
+    (λ c. search needs)
     returns)

@@ -17,30 +17,6 @@ abbrev μ-loop : tie.MeasureT-loop
 loop-holds : tie.Need-loop-holds Inv-loop μ-loop
 loop-holds c = stored-first _ _ _ _
 
-array-read-wider : tie.Need-array-read-wider Inv-loop μ-loop
-array-read-wider c = omega arith
-
-add-differing : tie.Need-add-differing Inv-loop μ-loop
-add-differing c = omega arith
-
-shared-slice-read-differing : tie.Need-shared-slice-read-differing Inv-loop μ-loop
-shared-slice-read-differing c = omega arith
-
-shared-slice-read-differing-2 : tie.Need-shared-slice-read-differing-2 Inv-loop μ-loop
-shared-slice-read-differing-2 c = omega arith
-
-differing-requires : tie.Need-differing-requires Inv-loop μ-loop
-differing-requires c κs = omega arith
-
-array-write-wider : tie.Need-array-write-wider Inv-loop μ-loop
-array-write-wider c = omega arith
-
-add-i : tie.Need-add-i Inv-loop μ-loop
-add-i c = omega arith
-
-loop-less : tie.Need-loop-less Inv-loop μ-loop
-loop-less c = omega arith
-
 loop-again : tie.Need-loop-again Inv-loop μ-loop
 loop-again c =
     let turn = c .before .before .before in
@@ -57,13 +33,13 @@ widen-spec =
     Inv-loop
     μ-loop
     loop-holds
-    array-read-wider
-    add-differing
-    shared-slice-read-differing
-    shared-slice-read-differing-2
-    differing-requires
-    array-write-wider
-    add-i
-    loop-less
+    (λ c. omega arith)
+    (λ c. omega arith)
+    (λ c. omega arith)
+    (λ c. omega arith)
+    (λ c κs. omega arith)
+    (λ c. omega arith)
+    (λ c. omega arith)
+    (λ c. omega arith)
     loop-again
     returns)

@@ -5,9 +5,6 @@ use borrow.Author.Needs.{needs}
 use Rattle.judge.proofs.judge.Statement.{statement}
 use Rattle.judge.proofs.judge.Tie as tie
 
-cube-bytes-requires : tie.Need-cube-bytes-requires
-cube-bytes-requires c κs = search needs
-
 judge-lamps-requires : tie.Need-judge-lamps-requires
 judge-lamps-requires c κs =
     let pre = c .before .before .before .before .before .before .pre in
@@ -23,12 +20,6 @@ known-fields-requires c κs =
     let pre = c .before .before .before .before .before .before .before .before .before .before .before .before .before .before .pre in
     (omega (arith, pre .0 .legal .bounded), settled-record-of _ _ _ _ (pre .0) _ _ _ (c .before .before .before .settle-latches .ensures) (pre .3))
 
-same-length : tie.Need-same-length
-same-length c = search needs
-
-same-length-2 : tie.Need-same-length-2
-same-length-2 c = search needs
-
 returns : tie.Need-returns
 returns c =
     let pre = c .before .before .before .before .before .before .before .before .before .before .before .before .before .before .before .pre in
@@ -42,10 +33,10 @@ pub judge-spec : {M : Type 1} → statement M
 judge-spec =
     tie.close
     (tie.spec
-    cube-bytes-requires
+    (λ c κs. search needs)
     judge-lamps-requires
     settle-latches-requires
     known-fields-requires
-    same-length
-    same-length-2
+    (λ c. search needs)
+    (λ c. search needs)
     returns)

@@ -70,12 +70,6 @@ agree-requires c κs =
     let first = at .before .before .before .lamps-at .ensures .1 in
     (judged-record _ _ _ _ _ (pre .0) entry (pre .1) _ first _ _ (inv .1), lamps-record _ _ _ _ _ (pre .0) entry (pre .1) _ first _ _ _ (lamps-fit _ _ _ _ _ (pre .0) (at .loop .lamps) (inv .2)) (c .before .before .before .lamps-at2 .ensures .1))
 
-add-k : tie.Need-add-k Inv-loop μ-loop
-add-k c = omega arith
-
-loop-less : tie.Need-loop-less Inv-loop μ-loop
-loop-less c = omega arith
-
 loop-again : tie.Need-loop-again Inv-loop μ-loop
 loop-again c =
     let at = c .before .before .before .before .before .before .before .before .before .before in
@@ -122,8 +116,8 @@ judge-lamps-spec =
     lamps-at-requires-2
     slice-aggregate-agree
     agree-requires
-    add-k
-    loop-less
+    (λ c. omega arith)
+    (λ c. omega arith)
     loop-again
     same-length
     returns)

@@ -8,19 +8,10 @@ use borrow.Author.Needs.{needs}
 use Rattle.judge.proofs.lamps_at.Statement.{statement}
 use Rattle.judge.proofs.lamps_at.Tie as tie
 
-settle-cube-requires : tie.Need-settle-cube-requires
-settle-cube-requires c κs = search needs
-
-literals-at-requires : tie.Need-literals-at-requires
-literals-at-requires c κs = search needs
-
 store-requires : tie.Need-store-requires
 store-requires c κs =
     let pre = c .before .before .before .before .before .before .before .before .pre in
     (rw (c .before .before .literals-at .ensures) (lamps-readable _ _ (pre .0)), c .before .before .before .settle-cube .ensures .working, omega arith, pre .4)
-
-same-length : tie.Need-same-length
-same-length c = search needs
 
 returns : tie.Need-returns
 returns c =
@@ -32,8 +23,8 @@ pub lamps-at-spec : {M : Type 1} → statement M
 lamps-at-spec =
     tie.close
     (tie.spec
-    settle-cube-requires
-    literals-at-requires
+    (λ c κs. search needs)
+    (λ c κs. search needs)
     store-requires
-    same-length
+    (λ c. search needs)
     returns)

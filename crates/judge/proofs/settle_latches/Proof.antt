@@ -24,9 +24,6 @@ copy-cube-requires c κs =
     let pre = start .pre in
     (latch-place _ _ _ _ _ (pre .0) _ (pre .0 .below), omega (arith, pre .0 .size, pre .1, cube-bytes (start .args .latches)))
 
-add-k : tie.Need-add-k Inv-loop μ-loop
-add-k c = omega arith
-
 loop-holds : tie.Need-loop-holds Inv-loop μ-loop
 loop-holds c =
     let start = c .before .before .before .before .before .before in
@@ -57,12 +54,6 @@ agree-requires c κs =
     let entry = start .args .settled .now in
     let inv = at .loop .inv in
     (settled-record _ _ _ _ _ (pre .0) entry (pre .1) (λ i. at .before .before .before .before .before .before .shared-slice-known .given i .fits) _ (at .before .before .before .copy-cube .ensures) _ _ (inv .0), cube-record _ _ _ _ _ (pre .0) _ (c .before .before .loop-test .taken))
-
-add-k-2 : tie.Need-add-k-2 Inv-loop μ-loop
-add-k-2 c = omega arith
-
-loop-less : tie.Need-loop-less Inv-loop μ-loop
-loop-less c = omega arith
 
 loop-again : tie.Need-loop-again Inv-loop μ-loop
 loop-again c =
@@ -99,15 +90,15 @@ settle-latches-spec =
     μ-loop
     mul-copy-cube
     copy-cube-requires
-    add-k
+    (λ c. omega arith)
     loop-holds
     mul-agree
     sub-agree
     part-agree-start
     part-agree-end
     agree-requires
-    add-k-2
-    loop-less
+    (λ c. omega arith)
+    (λ c. omega arith)
     loop-again
     same-length
     returns)

@@ -8,21 +8,15 @@ use Rattle.lines.proofs.digit_at.Tie as tie
 returns : tie.Need-returns
 returns c = digit-beyond _ _ (c .if1 .taken)
 
-shared-slice-read-b : tie.Need-shared-slice-read-b
-shared-slice-read-b c = search needs
-
 returns-2 : tie.Need-returns-2
 returns-2 c = digit-below _ _ (omega arith) (omega arith)
 
 returns-3 : tie.Need-returns-3
 returns-3 c = digit-above _ _ (omega arith) (omega arith)
 
-cast-result : tie.Need-cast-result
-cast-result c = search needs
-
 returns-4 : tie.Need-returns-4
 returns-4 c = digit-given _ _ (omega arith) (omega arith) (omega arith)
 
 pub digit-at-spec : {M : Type 1} → statement M
 digit-at-spec =
-    tie.close (tie.spec returns shared-slice-read-b returns-2 returns-3 cast-result returns-4)
+    tie.close (tie.spec returns (λ c. search needs) returns-2 returns-3 (λ c. search needs) returns-4)

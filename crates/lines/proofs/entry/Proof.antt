@@ -7,14 +7,8 @@ use Rattle.lines.proofs.entry.Tie as tie
 returns : tie.Need-returns
 returns c = entry-absent _ _ (c .if1 .taken)
 
-mul-result : tie.Need-mul-result
-mul-result c = search needs
-
-array-read-result : tie.Need-array-read-result
-array-read-result c = search needs
-
 returns-2 : tie.Need-returns-2
 returns-2 c = entry-given _ _ (c .before .if1 .left)
 
 pub entry-spec : {M : Type 1} → statement M
-entry-spec = tie.close (tie.spec returns mul-result array-read-result returns-2)
+entry-spec = tie.close (tie.spec returns (λ c. search needs) (λ c. search needs) returns-2)

@@ -16,20 +16,8 @@ abbrev μ-loop : tie.MeasureT-loop
 loop-holds : tie.Need-loop-holds Inv-loop μ-loop
 loop-holds c = pieces-first _ _ _ _ _ (omega arith) refl (omega arith)
 
-number-in-line-requires : tie.Need-number-in-line-requires Inv-loop μ-loop
-number-in-line-requires c κs = omega arith
-
 enum-known-found : tie.Need-enum-known-found Inv-loop μ-loop
 enum-known-found c = c .match .keys1
-
-mul-numbers : tie.Need-mul-numbers Inv-loop μ-loop
-mul-numbers c = omega arith
-
-array-write-numbers : tie.Need-array-write-numbers Inv-loop μ-loop
-array-write-numbers c = omega arith
-
-add-t14 : tie.Need-add-t14 Inv-loop μ-loop
-add-t14 c = omega arith
 
 returns : tie.Need-returns Inv-loop μ-loop
 returns c =
@@ -39,36 +27,18 @@ returns c =
 enum-known-found-2 : tie.Need-enum-known-found-2 Inv-loop μ-loop
 enum-known-found-2 c = c .match .keys2
 
-mul-numbers-2 : tie.Need-mul-numbers-2 Inv-loop μ-loop
-mul-numbers-2 c = omega arith
-
-array-write-numbers-2 : tie.Need-array-write-numbers-2 Inv-loop μ-loop
-array-write-numbers-2 c = omega arith
-
 enum-told : tie.Need-enum-told Inv-loop μ-loop
 enum-told c = c .match .keys3
-
-no-line-requires : tie.Need-no-line-requires Inv-loop μ-loop
-no-line-requires c κs = omega arith
 
 returns-2 : tie.Need-returns-2 Inv-loop μ-loop
 returns-2 c =
     let found = c .before .before .before in
     rw (pieces-ill _ _ _ _ (found .before .before .loop .inv) (found .before .loop-test .taken) (found .number-in-line .ensures) (c .before .enum-told .given .1)) (c .no-line .ensures _ (omega arith))
 
-add-k : tie.Need-add-k Inv-loop μ-loop
-add-k c = omega arith
-
-loop-less : tie.Need-loop-less Inv-loop μ-loop
-loop-less c = omega arith
-
 loop-again : tie.Need-loop-again Inv-loop μ-loop
 loop-again c =
     let turn = c .before .before .before .before in
     pieces-more _ _ _ _ (turn .before .loop .inv) (turn .loop-test .taken) (c .before .before .before .number-in-line .ensures) (c .before .found2 .given .1)
-
-no-line-requires-2 : tie.Need-no-line-requires-2 Inv-loop μ-loop
-no-line-requires-2 c κs = omega arith
 
 returns-3 : tie.Need-returns-3 Inv-loop μ-loop
 returns-3 c = rw (pieces-end _ _ _ _ (c .before .before .loop .inv) (c .before .loop-test .left)) (c .no-line2 .ensures _ (omega arith))
@@ -80,20 +50,20 @@ line-spec =
     Inv-loop
     μ-loop
     loop-holds
-    number-in-line-requires
+    (λ c κs. omega arith)
     enum-known-found
-    mul-numbers
-    array-write-numbers
-    add-t14
+    (λ c. omega arith)
+    (λ c. omega arith)
+    (λ c. omega arith)
     returns
     enum-known-found-2
-    mul-numbers-2
-    array-write-numbers-2
+    (λ c. omega arith)
+    (λ c. omega arith)
     enum-told
-    no-line-requires
+    (λ c κs. omega arith)
     returns-2
-    add-k
-    loop-less
+    (λ c. omega arith)
+    (λ c. omega arith)
     loop-again
-    no-line-requires-2
+    (λ c κs. omega arith)
     returns-3)

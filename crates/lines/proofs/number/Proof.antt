@@ -14,9 +14,6 @@ Inv-loop text at value₀ next₀ value next = Digits text at value next
 abbrev μ-loop : tie.MeasureT-loop
 μ-loop text at value₀ next₀ value next = length text - next
 
-digit-at-requires : tie.Need-digit-at-requires Inv-loop μ-loop
-digit-at-requires c κs = omega arith
-
 returns : tie.Need-returns Inv-loop μ-loop
 returns c = digits-none _ _ (c .before .digit-at .ensures) (c .if1 .taken)
 
@@ -26,23 +23,11 @@ add-next c = omega (arith, digit-within _ _ (c .before .digit-at .ensures) (c .i
 loop-holds : tie.Need-loop-holds Inv-loop μ-loop
 loop-holds c = digits-first _ _ (c .before .digit-at .ensures) (c .if1 .left)
 
-digit-at-requires-2 : tie.Need-digit-at-requires-2 Inv-loop μ-loop
-digit-at-requires-2 c κs = omega arith
-
 returns-2 : tie.Need-returns-2 Inv-loop μ-loop
 returns-2 c = digits-stop _ _ (c .before .before .loop .inv) (c .before .digit-at2 .ensures) (c .if2 .taken)
 
-may-grow-requires : tie.Need-may-grow-requires Inv-loop μ-loop
-may-grow-requires c κs = omega arith
-
 returns-3 : tie.Need-returns-3 Inv-loop μ-loop
 returns-3 c = digits-over _ _ (c .before .before .before .before .loop .inv) (c .before .before .before .digit-at2 .ensures) (c .before .before .if2 .left) (sym (c .before .may-grow .ensures) ∙ not-true _ (c .if3 .taken))
-
-mul-value : tie.Need-mul-value Inv-loop μ-loop
-mul-value c = omega arith
-
-add-value : tie.Need-add-value Inv-loop μ-loop
-add-value c = omega arith
 
 add-next-2 : tie.Need-add-next-2 Inv-loop μ-loop
 add-next-2 c = omega (arith, digit-within _ _ (c .before .before .before .digit-at2 .ensures) (c .before .before .if2 .left))
@@ -59,16 +44,16 @@ number-spec =
     (tie.spec
     Inv-loop
     μ-loop
-    digit-at-requires
+    (λ c κs. omega arith)
     returns
     add-next
     loop-holds
-    digit-at-requires-2
+    (λ c κs. omega arith)
     returns-2
-    may-grow-requires
+    (λ c κs. omega arith)
     returns-3
-    mul-value
-    add-value
+    (λ c. omega arith)
+    (λ c. omega arith)
     add-next-2
     loop-less
     loop-again)

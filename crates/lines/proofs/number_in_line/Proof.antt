@@ -4,23 +4,11 @@ use borrow.Author.Needs.{needs}
 use Rattle.lines.proofs.number_in_line.Statement.{statement}
 use Rattle.lines.proofs.number_in_line.Tie as tie
 
-number-requires : tie.Need-number-requires
-number-requires c κs = search needs
-
-enum-known-found : tie.Need-enum-known-found
-enum-known-found c = search needs
-
-enum-told : tie.Need-enum-told
-enum-told c = search needs
-
 returns : tie.Need-returns
 returns c = in-line-none _ _ _ (c .before .before .number .ensures) (c .enum-told .given .1)
 
 ending-at-requires : tie.Need-ending-at-requires
 ending-at-requires c κs = number-within (c .before .before .before .number .ensures) (c .before .found .given .1)
-
-add-t9 : tie.Need-add-t9
-add-t9 c = search needs
 
 returns-2 : tie.Need-returns-2
 returns-2 c =
@@ -33,12 +21,6 @@ returns-3 c =
     let behind = c .before .before in
     let value = behind .before .before in
     in-line-end _ _ _ (value .before .before .number .ensures) (value .found .given .1) (behind .ending-at .ensures) (c .before .if1 .left) (c .if2 .taken)
-
-shared-slice-read-if3 : tie.Need-shared-slice-read-if3
-shared-slice-read-if3 c = search needs
-
-add-t13 : tie.Need-add-t13
-add-t13 c = search needs
 
 returns-4 : tie.Need-returns-4
 returns-4 c =
@@ -56,15 +38,15 @@ pub number-in-line-spec : {M : Type 1} → statement M
 number-in-line-spec =
     tie.close
     (tie.spec
-    number-requires
-    enum-known-found
-    enum-told
+    (λ c κs. search needs)
+    (λ c. search needs)
+    (λ c. search needs)
     returns
     ending-at-requires
-    add-t9
+    (λ c. search needs)
     returns-2
     returns-3
-    shared-slice-read-if3
-    add-t13
+    (λ c. search needs)
+    (λ c. search needs)
     returns-4
     returns-5)

@@ -10,11 +10,8 @@ put-digit-requires c κs =
     let start = c .before .before in
     (omega arith, omega (arith, length-small (start .args .n) (omega arith)))
 
-same-length : tie.Need-same-length
-same-length c = omega arith
-
 returns : tie.Need-returns
 returns c = put-small _ (omega arith) (c .before .before .put-digit .ensures)
 
 pub put-one-spec : {M : Type 1} → statement M
-put-one-spec = tie.close (tie.spec put-digit-requires same-length returns)
+put-one-spec = tie.close (tie.spec put-digit-requires (λ c. omega arith) returns)

@@ -4,17 +4,8 @@ use Rattle.putting.proofs.Putting.{put-then}
 use Rattle.putting.proofs.put_word.Statement.{statement}
 use Rattle.putting.proofs.put_word.Tie as tie
 
-put-number-requires : tie.Need-put-number-requires
-put-number-requires c κs = omega arith
-
-put-byte-requires : tie.Need-put-byte-requires
-put-byte-requires c κs = omega arith
-
-same-length : tie.Need-same-length
-same-length c = omega arith
-
 returns : tie.Need-returns
 returns c = (put-then (c .before .before .before .before .before .before .put-number .ensures) (c .before .before .put-byte .ensures), omega arith)
 
 pub put-word-spec : {M : Type 1} → statement M
-put-word-spec = tie.close (tie.spec put-number-requires put-byte-requires same-length returns)
+put-word-spec = tie.close (tie.spec (λ c κs. omega arith) (λ c κs. omega arith) (λ c. omega arith) returns)

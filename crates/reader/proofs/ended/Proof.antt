@@ -8,17 +8,8 @@ use Rattle.reader.proofs.ended.Tie as tie
 returns : tie.Need-returns
 returns c = ended-last _ _ _ (c .if1 .taken)
 
-shared-slice-read-if2 : tie.Need-shared-slice-read-if2
-shared-slice-read-if2 c = search needs
-
 returns-2 : tie.Need-returns-2
 returns-2 c = ended-other _ _ _ (omega arith) (c .if2 .taken)
-
-add-ending-at : tie.Need-add-ending-at
-add-ending-at c = search needs
-
-ending-at-requires : tie.Need-ending-at-requires
-ending-at-requires c κs = search needs
 
 returns-3 : tie.Need-returns-3
 returns-3 c = ended-comment _ _ _ (omega arith) (c .before .if2 .left) (c .ending-at .ensures)
@@ -26,4 +17,4 @@ returns-3 c = ended-comment _ _ _ (omega arith) (c .before .if2 .left) (c .endin
 pub ended-spec : {M : Type 1} → statement M
 ended-spec =
     tie.close
-    (tie.spec returns shared-slice-read-if2 returns-2 add-ending-at ending-at-requires returns-3)
+    (tie.spec returns (λ c. search needs) returns-2 (λ c. search needs) (λ c κs. search needs) returns-3)

@@ -8,17 +8,8 @@ use Rattle.reader.proofs.gate_refusal.Tie as tie
 returns : tie.Need-returns
 returns c = gate-count _ _ _ (omega arith) (λ e. omega arith)
 
-entry-requires : tie.Need-entry-requires
-entry-requires c κs = search needs
-
 returns-2 : tie.Need-returns-2
 returns-2 c = gate-own _ _ _ (omega arith) (omega arith) (λ e. omega arith)
-
-entry-requires-2 : tie.Need-entry-requires-2
-entry-requires-2 c κs = search needs
-
-entry-requires-3 : tie.Need-entry-requires-3
-entry-requires-3 c κs = search needs
 
 returns-3 : tie.Need-returns-3
 returns-3 c = gate-left-over _ _ _ (omega arith) (omega arith) (omega arith) (omega arith)
@@ -40,10 +31,10 @@ gate-refusal-spec =
     tie.close
     (tie.spec
     returns
-    entry-requires
+    (λ c κs. search needs)
     returns-2
-    entry-requires-2
-    entry-requires-3
+    (λ c κs. search needs)
+    (λ c κs. search needs)
     returns-3
     returns-4
     returns-5

@@ -6,12 +6,6 @@ use borrow.Author.Needs.{needs}
 use Rattle.reader.proofs.header.Statement.{statement}
 use Rattle.reader.proofs.header.Tie as tie
 
-opens-requires : tie.Need-opens-requires
-opens-requires c κs = search needs
-
-no-line-requires : tie.Need-no-line-requires
-no-line-requires c κs = search needs
-
 returns : tie.Need-returns
 returns c = rw (header-none _ _ (c .before .before .opens .ensures) (not-true _ (c .before .if1 .taken))) (c .no-line .ensures _ (omega arith))
 
@@ -22,4 +16,4 @@ returns-2 : tie.Need-returns-2
 returns-2 c = rw (header-line _ _ (c .before .before .opens .ensures) (not-false _ (c .before .if1 .left))) (c .line .ensures)
 
 pub header-spec : {M : Type 1} → statement M
-header-spec = tie.close (tie.spec opens-requires no-line-requires returns line-requires returns-2)
+header-spec = tie.close (tie.spec (λ c κs. search needs) (λ c κs. search needs) returns line-requires returns-2)

@@ -10,17 +10,8 @@ use Rattle.reader.proofs.header_refusal.Tie as tie
 returns : tie.Need-returns
 returns c = header-count _ (omega arith) (λ e. omega arith)
 
-counts-of-requires : tie.Need-counts-of-requires
-counts-of-requires c κs = search needs
-
-ceiling-refusal-requires : tie.Need-ceiling-refusal-requires
-ceiling-refusal-requires c κs = search needs
-
 returns-2 : tie.Need-returns-2
 returns-2 c = header-over _ (omega arith) (omega arith) (c .before .before .counts-of .ensures) (c .before .ceiling-refusal .ensures) (c .if2 .taken)
-
-entry-requires : tie.Need-entry-requires
-entry-requires c κs = search needs
 
 add-if3 : tie.Need-add-if3
 add-if3 c = omega (arith, bounded _ (sym (c .before .before .if2 .left) ∙ c .before .before .before .ceiling-refusal .ensures))
@@ -39,10 +30,10 @@ header-refusal-spec =
     tie.close
     (tie.spec
     returns
-    counts-of-requires
-    ceiling-refusal-requires
+    (λ c κs. search needs)
+    (λ c κs. search needs)
     returns-2
-    entry-requires
+    (λ c κs. search needs)
     add-if3
     add-if3-2
     returns-3

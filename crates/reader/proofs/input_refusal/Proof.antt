@@ -8,9 +8,6 @@ use Rattle.reader.proofs.input_refusal.Tie as tie
 returns : tie.Need-returns
 returns c = λ most. input-count _ _ _ (omega arith) (λ e. omega arith)
 
-entry-requires : tie.Need-entry-requires
-entry-requires c κs = search needs
-
 returns-2 : tie.Need-returns-2
 returns-2 c = λ most. input-own _ _ _ (omega arith) (omega arith) (λ e. omega arith)
 
@@ -18,4 +15,4 @@ returns-3 : tie.Need-returns-3
 returns-3 c = λ most. input-passes _ _ _ (omega arith) (omega arith) (omega arith)
 
 pub input-refusal-spec : {M : Type 1} → statement M
-input-refusal-spec = tie.close (tie.spec returns entry-requires returns-2 returns-3)
+input-refusal-spec = tie.close (tie.spec returns (λ c κs. search needs) returns-2 returns-3)

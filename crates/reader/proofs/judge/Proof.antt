@@ -9,17 +9,8 @@ use Rattle.reader.proofs.judge.Tie as tie
 returns : tie.Need-returns
 returns c = judged-long _ _ (c .if1 .taken)
 
-header-requires : tie.Need-header-requires
-header-requires c κs = search needs
-
-header-refusal-requires : tie.Need-header-refusal-requires
-header-refusal-requires c κs = search needs
-
 returns-2 : tie.Need-returns-2
 returns-2 c = judged-header _ _ (c .before .before .before .if1 .left) (c .before .before .header .ensures) (c .before .header-refusal .ensures) (c .if2 .taken)
-
-counts-of-requires : tie.Need-counts-of-requires
-counts-of-requires c κs = search needs
 
 judge-body-requires : tie.Need-judge-body-requires
 judge-body-requires c κs =
@@ -32,9 +23,6 @@ returns-3 c =
     let counts = body .before in
     let refusal = counts .before .before in
     judged-stops _ _ (refusal .before .before .if1 .left) (refusal .before .header .ensures) (refusal .header-refusal .ensures) (counts .before .if2 .left) (counts .counts-of .ensures) (body .judge-body .ensures) (c .if3 .taken)
-
-ended-requires : tie.Need-ended-requires
-ended-requires c κs = search needs
 
 returns-4 : tie.Need-returns-4
 returns-4 c =
@@ -55,12 +43,12 @@ judge-spec =
     tie.close
     (tie.spec
     returns
-    header-requires
-    header-refusal-requires
+    (λ c κs. search needs)
+    (λ c κs. search needs)
     returns-2
-    counts-of-requires
+    (λ c κs. search needs)
     judge-body-requires
     returns-3
-    ended-requires
+    (λ c κs. search needs)
     returns-4
     returns-5)

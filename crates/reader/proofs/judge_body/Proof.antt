@@ -6,39 +6,9 @@ use borrow.Author.Needs.{needs}
 use Rattle.reader.proofs.judge_body.Statement.{statement}
 use Rattle.reader.proofs.judge_body.Tie as tie
 
-mul-latch : tie.Need-mul-latch
-mul-latch c = search needs
-
-add-latch : tie.Need-add-latch
-add-latch c = search needs
-
-mul-gate : tie.Need-mul-gate
-mul-gate c = search needs
-
-add-gate : tie.Need-add-gate
-add-gate c = search needs
-
-add-most : tie.Need-add-most
-add-most c = search needs
-
-add-most-2 : tie.Need-add-most-2
-add-most-2 c = search needs
-
-mul-most : tie.Need-mul-most
-mul-most c = search needs
-
-add-most-3 : tie.Need-add-most-3
-add-most-3 c = search needs
-
-judge-lines-requires : tie.Need-judge-lines-requires
-judge-lines-requires c κs = search needs
-
 returns : tie.Need-returns
 unfolding coded
 returns c = judged-stop _ (c .before .before .judge-lines .ensures) (c .if1 .taken)
-
-judge-lines-requires-2 : tie.Need-judge-lines-requires-2
-judge-lines-requires-2 c κs = search needs
 
 returns-2 : tie.Need-returns-2
 unfolding coded
@@ -46,12 +16,6 @@ returns-2 c =
     let latches = c .before .before in
     let inputs = latches .before .before .before in
     judged-then _ (inputs .judge-lines .ensures) (latches .before .if1 .left) (judged-stop _ (latches .judge-lines2 .ensures) (c .if2 .taken))
-
-literals-requires : tie.Need-literals-requires
-literals-requires c κs = search needs
-
-judge-lines-requires-3 : tie.Need-judge-lines-requires-3
-judge-lines-requires-3 c κs = search needs
 
 returns-3 : tie.Need-returns-3
 unfolding coded
@@ -80,20 +44,20 @@ pub judge-body-spec : {M : Type 1} → statement M
 judge-body-spec =
     tie.close
     (tie.spec
-    mul-latch
-    add-latch
-    mul-gate
-    add-gate
-    add-most
-    add-most-2
-    mul-most
-    add-most-3
-    judge-lines-requires
+    (λ c. search needs)
+    (λ c. search needs)
+    (λ c. search needs)
+    (λ c. search needs)
+    (λ c. search needs)
+    (λ c. search needs)
+    (λ c. search needs)
+    (λ c. search needs)
+    (λ c κs. search needs)
     returns
-    judge-lines-requires-2
+    (λ c κs. search needs)
     returns-2
-    literals-requires
-    judge-lines-requires-3
+    (λ c κs. search needs)
+    (λ c κs. search needs)
     returns-3
     judge-lines-requires-4
     returns-4)

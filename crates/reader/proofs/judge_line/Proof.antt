@@ -4,14 +4,8 @@ use borrow.Author.Needs.{needs}
 use Rattle.reader.proofs.judge_line.Statement.{statement}
 use Rattle.reader.proofs.judge_line.Tie as tie
 
-line-requires : tie.Need-line-requires
-line-requires c κs = search needs
-
-line-refusal-requires : tie.Need-line-refusal-requires
-line-refusal-requires c κs = search needs
-
 returns : tie.Need-returns
 returns c = line-judged _ _ _ _ _ _ _ (c .before .line .ensures) (c .line-refusal .ensures)
 
 pub judge-line-spec : {M : Type 1} → statement M
-judge-line-spec = tie.close (tie.spec line-requires line-refusal-requires returns)
+judge-line-spec = tie.close (tie.spec (λ c κs. search needs) (λ c κs. search needs) returns)

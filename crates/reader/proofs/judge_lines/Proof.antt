@@ -17,25 +17,10 @@ abbrev μ-loop : tie.MeasureT-loop
 loop-holds : tie.Need-loop-holds Inv-loop μ-loop
 loop-holds c = turns-first _ _ _ _ _ _ _ (omega arith)
 
-mul-judge-line : tie.Need-mul-judge-line Inv-loop μ-loop
-mul-judge-line c = omega arith
-
-add-judge-line : tie.Need-add-judge-line Inv-loop μ-loop
-add-judge-line c = omega arith
-
-judge-line-requires : tie.Need-judge-line-requires Inv-loop μ-loop
-judge-line-requires c κs = omega arith
-
 returns : tie.Need-returns Inv-loop μ-loop
 returns c =
     let turn = c .before .before .before in
     turns-stop _ _ _ _ _ _ _ (turn .before .loop .inv) (turn .loop-test .taken) (c .before .before .judge-line .ensures) (c .if1 .taken)
-
-add-i : tie.Need-add-i Inv-loop μ-loop
-add-i c = omega arith
-
-loop-less : tie.Need-loop-less Inv-loop μ-loop
-loop-less c = omega arith
 
 loop-again : tie.Need-loop-again Inv-loop μ-loop
 loop-again c =
@@ -52,11 +37,11 @@ judge-lines-spec =
     Inv-loop
     μ-loop
     loop-holds
-    mul-judge-line
-    add-judge-line
-    judge-line-requires
+    (λ c. omega arith)
+    (λ c. omega arith)
+    (λ c κs. omega arith)
     returns
-    add-i
-    loop-less
+    (λ c. omega arith)
+    (λ c. omega arith)
     loop-again
     returns-2)

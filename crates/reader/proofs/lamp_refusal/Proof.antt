@@ -8,9 +8,6 @@ use Rattle.reader.proofs.lamp_refusal.Tie as tie
 returns : tie.Need-returns
 returns c = lamp-count _ _ (omega arith) (λ e. omega arith)
 
-entry-requires : tie.Need-entry-requires
-entry-requires c κs = search needs
-
 returns-2 : tie.Need-returns-2
 returns-2 c = lamp-over _ _ (omega arith) (omega arith) (omega arith)
 
@@ -18,4 +15,4 @@ returns-3 : tie.Need-returns-3
 returns-3 c = lamp-passes _ _ (omega arith) (omega arith) (omega arith)
 
 pub lamp-refusal-spec : {M : Type 1} → statement M
-lamp-refusal-spec = tie.close (tie.spec returns entry-requires returns-2 returns-3)
+lamp-refusal-spec = tie.close (tie.spec returns (λ c κs. search needs) returns-2 returns-3)

@@ -4,26 +4,14 @@ use borrow.Author.Needs.{needs}
 use Rattle.reader.proofs.line_refusal.Statement.{statement}
 use Rattle.reader.proofs.line_refusal.Tie as tie
 
-input-refusal-requires : tie.Need-input-refusal-requires
-input-refusal-requires c κs = search needs
-
 returns : tie.Need-returns
 returns c = let start = c .before .before in rw (coded-input (start .args .own) (c .before .if1 .taken)) (c .input-refusal .ensures _)
-
-latch-refusal-requires : tie.Need-latch-refusal-requires
-latch-refusal-requires c κs = search needs
 
 returns-2 : tie.Need-returns-2
 returns-2 c = let start = c .before .before .before in rw (coded-latch (start .args .own) (c .before .if2 .taken)) (c .latch-refusal .ensures)
 
-lamp-refusal-requires : tie.Need-lamp-refusal-requires
-lamp-refusal-requires c κs = search needs
-
 returns-3 : tie.Need-returns-3
 returns-3 c = let start = c .before .before .before .before in rw (coded-lamp (start .args .own) (c .before .if3 .taken)) (c .lamp-refusal .ensures)
-
-gate-refusal-requires : tie.Need-gate-refusal-requires
-gate-refusal-requires c κs = search needs
 
 returns-4 : tie.Need-returns-4
 returns-4 c =
@@ -37,11 +25,11 @@ pub line-refusal-spec : {M : Type 1} → statement M
 line-refusal-spec =
     tie.close
     (tie.spec
-    input-refusal-requires
+    (λ c κs. search needs)
     returns
-    latch-refusal-requires
+    (λ c κs. search needs)
     returns-2
-    lamp-refusal-requires
+    (λ c κs. search needs)
     returns-3
-    gate-refusal-requires
+    (λ c κs. search needs)
     returns-4)

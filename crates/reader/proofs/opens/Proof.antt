@@ -23,20 +23,8 @@ returns c = opened-short _ (c .if1 .taken)
 loop-holds : tie.Need-loop-holds Inv-loop μ-loop
 loop-holds c = tried-first _ _
 
-shared-slice-read-if2 : tie.Need-shared-slice-read-if2 Inv-loop μ-loop
-shared-slice-read-if2 c = omega arith
-
-array-read-if2 : tie.Need-array-read-if2 Inv-loop μ-loop
-array-read-if2 c = omega arith
-
 returns-2 : tie.Need-returns-2 Inv-loop μ-loop
 returns-2 c = tried-fails _ _ (c .before .before .loop-test .taken) refl (ne-eqb _ _ (λ e. c .if2 .taken (sym e))) ∙ opened-alike _ (c .before .before .before .before .if1 .left)
-
-add-i : tie.Need-add-i Inv-loop μ-loop
-add-i c = omega arith
-
-loop-less : tie.Need-loop-less Inv-loop μ-loop
-loop-less c = omega arith
 
 loop-again : tie.Need-loop-again Inv-loop μ-loop
 loop-again c = tried-next _ _ (c .before .before .before .loop .inv) (c .before .before .loop-test .taken) refl (eq-eqb _ _ (sym (c .if2 .left)))
@@ -52,10 +40,10 @@ opens-spec =
     μ-loop
     returns
     loop-holds
-    shared-slice-read-if2
-    array-read-if2
+    (λ c. omega arith)
+    (λ c. omega arith)
     returns-2
-    add-i
-    loop-less
+    (λ c. omega arith)
+    (λ c. omega arith)
     loop-again
     returns-3)

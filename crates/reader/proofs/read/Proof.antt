@@ -5,28 +5,13 @@ use borrow.Author.Needs.{needs}
 use Rattle.reader.proofs.read.Statement.{statement}
 use Rattle.reader.proofs.read.Tie as tie
 
-judge-requires : tie.Need-judge-requires
-judge-requires c κs = search needs
-
-enum-known-judgement : tie.Need-enum-known-judgement
-enum-known-judgement c = search needs
-
-refused-requires : tie.Need-refused-requires
-refused-requires c κs = search needs
-
 returns : tie.Need-returns
 returns c =
     let known = c .before .before in
     answers-refused _ _ (known .before .before .judge .ensures) (known .judgement .given .1) (c .refused .ensures .0) (c .refused .ensures .1)
 
-enum-known-judgement-2 : tie.Need-enum-known-judgement-2
-enum-known-judgement-2 c = search needs
-
 table-length-requires : tie.Need-table-length-requires
 table-length-requires c κs = starts (c .before .before .before .judge .ensures) (c .before .judgement2 .given .1) .bounded
-
-refused-requires-2 : tie.Need-refused-requires-2
-refused-requires-2 c κs = search needs
 
 returns-2 : tie.Need-returns-2
 returns-2 c =
@@ -38,9 +23,6 @@ fill-requires c κs =
     let known = c .before .before .before .before in
     fillable _ _ (known .before .before .judge .ensures) (known .judgement2 .given .1) (omega arith)
 
-same-length : tie.Need-same-length
-same-length c = search needs
-
 returns-3 : tie.Need-returns-3
 returns-3 c =
     let known = c .before .before .before .before .before .before .before in
@@ -50,14 +32,14 @@ pub read-spec : {M : Type 1} → statement M
 read-spec =
     tie.close
     (tie.spec
-    judge-requires
-    enum-known-judgement
-    refused-requires
+    (λ c κs. search needs)
+    (λ c. search needs)
+    (λ c κs. search needs)
     returns
-    enum-known-judgement-2
+    (λ c. search needs)
     table-length-requires
-    refused-requires-2
+    (λ c κs. search needs)
     returns-2
     fill-requires
-    same-length
+    (λ c. search needs)
     returns-3)

@@ -8,26 +8,11 @@ use Rattle.io.proofs.write_all.Reads as write-all-reads
 use Rattle.report.proofs.complain.Reads as complain-reads
 use Rattle.report.proofs.report.Reads as report-reads
 
-report-requires : tie.Need-report-requires
-report-requires c κs = search needs
-
 array-share-prefix-out : tie.Need-array-share-prefix-out
 array-share-prefix-out c = c .report .ensures .fits
 
 slice-aggregate-write-all : tie.Need-slice-aggregate-write-all
 slice-aggregate-write-all c = sym (length-take-le _ _ (array-share-prefix-out (c .before)))
-
-write-all-requires : tie.Need-write-all-requires
-write-all-requires c κs = search needs
-
-slice-aggregate-complain : tie.Need-slice-aggregate-complain
-slice-aggregate-complain c = search needs
-
-complain-requires : tie.Need-complain-requires
-complain-requires c κs = search needs
-
-returns : tie.Need-returns
-returns c = search needs
 
 returns-2 : tie.Need-returns-2
 returns-2 c = search needs
@@ -36,11 +21,11 @@ pub print-report-spec : {M : Type 1} → statement M
 print-report-spec =
     tie.close
     (tie.spec
-    report-requires
+    (λ c κs. search needs)
     array-share-prefix-out
     slice-aggregate-write-all
-    write-all-requires
-    slice-aggregate-complain
-    complain-requires
-    returns
+    (λ c κs. search needs)
+    (λ c. search needs)
+    (λ c κs. search needs)
+    (λ c. search needs)
     returns-2)

@@ -7,18 +7,6 @@ use Rattle.report.proofs.put_closed.Tie as tie
 use Rattle.report.proofs.put_closing.Reads as put-closing-reads
 use Rattle.rows.proofs.put_rows.Reads as put-rows-reads
 
-put-closing-requires : tie.Need-put-closing-requires
-put-closing-requires c κs = search needs
-
-put-rows-requires : tie.Need-put-rows-requires
-put-rows-requires c κs = search needs
-
-put-rows-requires-2 : tie.Need-put-rows-requires-2
-put-rows-requires-2 c κs = search needs
-
-same-length : tie.Need-same-length
-same-length c = search needs
-
 returns : tie.Need-returns
 returns c =
     let latches = c .before .before in
@@ -29,4 +17,4 @@ returns c =
 pub put-closed-spec : {M : Type 1} → statement M
 put-closed-spec =
     tie.close
-    (tie.spec put-closing-requires put-rows-requires put-rows-requires-2 same-length returns)
+    (tie.spec (λ c κs. search needs) (λ c κs. search needs) (λ c κs. search needs) (λ c. search needs) returns)

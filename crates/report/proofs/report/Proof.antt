@@ -12,38 +12,11 @@ use Rattle.report.proofs.put_refusal.Reads as put-refusal-reads
 use Rattle.run.proofs.run.Reads as run-reads
 use Rattle.reader.proofs.read.Reads as read-reads
 
-slice-aggregate-read : tie.Need-slice-aggregate-read
-slice-aggregate-read c = search needs
-
-read-requires : tie.Need-read-requires
-read-requires c κs = search needs
-
-put-refusal-requires : tie.Need-put-refusal-requires
-put-refusal-requires c κs = search needs
-
 returns : tie.Need-returns
 returns c =
     let asked = c .before .before in
     let read = asked .before .before .before in
     put-report _ (read-refused _ _ (omega arith) (read .read .ensures) (asked .if1 .taken)) (c .put-refusal .ensures)
-
-slice-aggregate-run : tie.Need-slice-aggregate-run
-slice-aggregate-run c = search needs
-
-slice-aggregate-run-2 : tie.Need-slice-aggregate-run-2
-slice-aggregate-run-2 c = search needs
-
-slice-aggregate-run-3 : tie.Need-slice-aggregate-run-3
-slice-aggregate-run-3 c = search needs
-
-slice-aggregate-run-4 : tie.Need-slice-aggregate-run-4
-slice-aggregate-run-4 c = search needs
-
-run-requires : tie.Need-run-requires
-run-requires c κs = search needs
-
-put-refusal-requires-2 : tie.Need-put-refusal-requires-2
-put-refusal-requires-2 c κs = search needs
 
 returns-2 : tie.Need-returns-2
 returns-2 c =
@@ -81,16 +54,16 @@ pub report-spec : {M : Type 1} → statement M
 report-spec =
     tie.close
     (tie.spec
-    slice-aggregate-read
-    read-requires
-    put-refusal-requires
+    (λ c. search needs)
+    (λ c κs. search needs)
+    (λ c κs. search needs)
     returns
-    slice-aggregate-run
-    slice-aggregate-run-2
-    slice-aggregate-run-3
-    slice-aggregate-run-4
-    run-requires
-    put-refusal-requires-2
+    (λ c. search needs)
+    (λ c. search needs)
+    (λ c. search needs)
+    (λ c. search needs)
+    (λ c κs. search needs)
+    (λ c κs. search needs)
     returns-2
     slice-aggregate-put-closed
     slice-aggregate-put-closed-2

@@ -16,26 +16,8 @@ abbrev μ-loop : tie.MeasureT-loop
 loop-holds : tie.Need-loop-holds Inv-loop μ-loop
 loop-holds c = (omega arith, refl)
 
-take-some-requires : tie.Need-take-some-requires Inv-loop μ-loop
-take-some-requires c κs = omega arith
-
-same-length : tie.Need-same-length Inv-loop μ-loop
-same-length c = omega arith
-
-returns : tie.Need-returns Inv-loop μ-loop
-returns c = omega arith
-
-add-bytes : tie.Need-add-bytes Inv-loop μ-loop
-add-bytes c = omega arith
-
-loop-less : tie.Need-loop-less Inv-loop μ-loop
-loop-less c = omega arith
-
 loop-again : tie.Need-loop-again Inv-loop μ-loop
 loop-again c = (omega arith, omega arith)
-
-same-length-2 : tie.Need-same-length-2 Inv-loop μ-loop
-same-length-2 c = omega arith
 
 returns-2 : tie.Need-returns-2 Inv-loop μ-loop
 returns-2 c = omega arith
@@ -47,11 +29,11 @@ take-text-spec =
     Inv-loop
     μ-loop
     loop-holds
-    take-some-requires
-    same-length
-    returns
-    add-bytes
-    loop-less
+    (λ c κs. omega arith)
+    (λ c. omega arith)
+    (λ c. omega arith)
+    (λ c. omega arith)
+    (λ c. omega arith)
     loop-again
-    same-length-2
+    (λ c. omega arith)
     returns-2)

@@ -7,14 +7,8 @@ use Rattle.rows.proofs.put_item.Tie as tie
 use Rattle.rows.proofs.put_bytes.Reads as put-bytes-reads
 use Rattle.rows.proofs.put_long.Reads as put-long-reads
 
-put-bytes-requires : tie.Need-put-bytes-requires
-put-bytes-requires c κs = search needs
-
 put-long-requires : tie.Need-put-long-requires
 put-long-requires c κs = omega (arith, twenty-digits (c .before .before .before .before .before .before .before .args .n) (omega arith))
-
-same-length : tie.Need-same-length
-same-length c = search needs
 
 returns : tie.Need-returns
 returns c =
@@ -24,4 +18,4 @@ returns c =
     item-put _ (name .put-bytes .ensures) (number .put-long .ensures) (omega arith)
 
 pub put-item-spec : {M : Type 1} → statement M
-put-item-spec = tie.close (tie.spec put-bytes-requires put-long-requires same-length returns)
+put-item-spec = tie.close (tie.spec (λ c κs. search needs) put-long-requires (λ c. search needs) returns)

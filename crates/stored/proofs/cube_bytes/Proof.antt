@@ -5,11 +5,8 @@ use borrow.Author.Needs.{needs}
 use Rattle.stored.proofs.cube_bytes.Statement.{statement}
 use Rattle.stored.proofs.cube_bytes.Tie as tie
 
-record-length-requires : tie.Need-record-length-requires
-record-length-requires c κs = search needs
-
 returns : tie.Need-returns
 returns c = c .record-length .ensures ∙ sym (cube-bytes _)
 
 pub cube-bytes-spec : {M : Type 1} → statement M
-cube-bytes-spec = tie.close (tie.spec record-length-requires returns)
+cube-bytes-spec = tie.close (tie.spec (λ c κs. search needs) returns)

@@ -7,22 +7,10 @@ use borrow.Author.Needs.{needs}
 use Rattle.stored.proofs.reach.Statement.{statement}
 use Rattle.stored.proofs.reach.Tie as tie
 
-settle-cube-requires : tie.Need-settle-cube-requires
-settle-cube-requires c κs = search needs
-
-slice-aggregate-store : tie.Need-slice-aggregate-store
-slice-aggregate-store c = search needs
-
 store-requires : tie.Need-store-requires
 store-requires c κs =
     let pre = c .before .before .before .before .before .before .pre in
     (next-readable _ _ (pre .0), c .before .before .settle-cube .ensures .working, omega arith, omega (arith, pre .0 .bounded))
-
-slice-aggregate-store-kept : tie.Need-slice-aggregate-store-kept
-slice-aggregate-store-kept c = search needs
-
-cube-bytes-requires : tie.Need-cube-bytes-requires
-cube-bytes-requires c κs = search needs
 
 store-kept-requires : tie.Need-store-kept-requires
 store-kept-requires c κs = search (needs, few-bytes (c .before .before .before .before .before .before .before .before .before .before .before .pre .0 .bounded .latches))
@@ -37,10 +25,10 @@ pub reach-spec : {M : Type 1} → statement M
 reach-spec =
     tie.close
     (tie.spec
-    settle-cube-requires
-    slice-aggregate-store
+    (λ c κs. search needs)
+    (λ c. search needs)
     store-requires
-    slice-aggregate-store-kept
-    cube-bytes-requires
+    (λ c. search needs)
+    (λ c κs. search needs)
     store-kept-requires
     returns)

@@ -24,34 +24,10 @@ stored-holds c = outer-first _ _ _ _ (c .pre .0)
 loop-holds : tie.Need-loop-holds Inv-loop μ-loop Inv-stored μ-stored
 loop-holds c = (inner-first _ _ _ _ (c .before .before .pre .0) _ _ (c .before .stored .inv) (c .if1 .left), refl)
 
-add-c : tie.Need-add-c Inv-loop μ-loop Inv-stored μ-stored
-add-c c = omega arith
-
-shared-slice-read-c : tie.Need-shared-slice-read-c Inv-loop μ-loop Inv-stored μ-stored
-shared-slice-read-c c = omega arith
-
-shared-slice-read-d : tie.Need-shared-slice-read-d Inv-loop μ-loop Inv-stored μ-stored
-shared-slice-read-d c = omega arith
-
-add-k : tie.Need-add-k Inv-loop μ-loop Inv-stored μ-stored
-add-k c = omega arith
-
-add-at : tie.Need-add-at Inv-loop μ-loop Inv-stored μ-stored
-add-at c = omega arith
-
-stored-less : tie.Need-stored-less Inv-loop μ-loop Inv-stored μ-stored
-stored-less c = omega arith
-
 stored-again : tie.Need-stored-again Inv-loop μ-loop Inv-stored μ-stored
 stored-again c =
     let turn = c .before .before .before in
     clash _ _ _ _ (turn .before .before .before .before .pre .0) _ _ _ (turn .before .loop .inv .0) (turn .loop-test .taken) (c .if2 .taken)
-
-add-i : tie.Need-add-i Inv-loop μ-loop Inv-stored μ-stored
-add-i c = omega arith
-
-loop-less : tie.Need-loop-less Inv-loop μ-loop Inv-stored μ-stored
-loop-less c = omega arith
 
 loop-again : tie.Need-loop-again Inv-loop μ-loop Inv-stored μ-stored
 loop-again c =
@@ -74,15 +50,15 @@ search-spec =
     μ-stored
     stored-holds
     loop-holds
-    add-c
-    shared-slice-read-c
-    shared-slice-read-d
-    add-k
-    add-at
-    stored-less
+    (λ c. omega arith)
+    (λ c. omega arith)
+    (λ c. omega arith)
+    (λ c. omega arith)
+    (λ c. omega arith)
+    (λ c. omega arith)
     stored-again
-    add-i
-    loop-less
+    (λ c. omega arith)
+    (λ c. omega arith)
     loop-again
     returns
     returns-2)

@@ -5,15 +5,6 @@ use borrow.Author.Needs.{needs}
 use Rattle.stored.proofs.settle_cube.Statement.{statement}
 use Rattle.stored.proofs.settle_cube.Tie as tie
 
-sub-settle-state : tie.Need-sub-settle-state
-sub-settle-state c = search needs
-
-part-settle-state-start : tie.Need-part-settle-state-start
-part-settle-state-start c = search needs
-
-part-settle-state-end : tie.Need-part-settle-state-end
-part-settle-state-end c = search needs
-
 settle-state-requires : tie.Need-settle-state-requires
 settle-state-requires c κs =
     let pre = c .before .before .before .before .pre in
@@ -26,8 +17,8 @@ pub settle-cube-spec : {M : Type 1} → statement M
 settle-cube-spec =
     tie.close
     (tie.spec
-    sub-settle-state
-    part-settle-state-start
-    part-settle-state-end
+    (λ c. search needs)
+    (λ c. search needs)
+    (λ c. search needs)
     settle-state-requires
     returns)

@@ -23,18 +23,6 @@ cube-bytes-requires c κs = tt
 loop-holds : tie.Need-loop-holds Inv-loop μ-loop
 loop-holds c = stored-first _ _ _ _
 
-start-byte-requires : tie.Need-start-byte-requires Inv-loop μ-loop
-start-byte-requires c κs = omega arith
-
-slice-write-cubes : tie.Need-slice-write-cubes Inv-loop μ-loop
-slice-write-cubes c = omega arith
-
-add-k : tie.Need-add-k Inv-loop μ-loop
-add-k c = omega arith
-
-loop-less : tie.Need-loop-less Inv-loop μ-loop
-loop-less c = omega arith
-
 loop-again : tie.Need-loop-again Inv-loop μ-loop
 loop-again c =
     let whole = c .before .before .before .before .before .before .args .count in
@@ -54,10 +42,10 @@ store-start-spec =
     μ-loop
     cube-bytes-requires
     loop-holds
-    start-byte-requires
-    slice-write-cubes
-    add-k
-    loop-less
+    (λ c κs. omega arith)
+    (λ c. omega arith)
+    (λ c. omega arith)
+    (λ c. omega arith)
     loop-again
     same-length
     returns)

@@ -51,21 +51,6 @@ record-length-requires c κs = tt
 loop-holds : tie.Need-loop-holds Inv-loop μ-loop
 loop-holds c = stored-first _ _ _ _
 
-slice-read-bytes : tie.Need-slice-read-bytes Inv-loop μ-loop
-slice-read-bytes c = omega arith
-
-shared-slice-read-bytes : tie.Need-shared-slice-read-bytes Inv-loop μ-loop
-shared-slice-read-bytes c = omega arith
-
-slice-write-bytes : tie.Need-slice-write-bytes Inv-loop μ-loop
-slice-write-bytes c = omega arith
-
-add-k : tie.Need-add-k Inv-loop μ-loop
-add-k c = omega arith
-
-loop-less : tie.Need-loop-less Inv-loop μ-loop
-loop-less c = omega arith
-
 loop-again : tie.Need-loop-again Inv-loop μ-loop
 loop-again c =
     let turn = c .before .before in
@@ -80,4 +65,4 @@ returns c = last _ _ _ _ _ (c .before .loop .inv) (omega arith)
 
 pub agree-spec : {M : Type 1} → statement M
 agree-spec =
-    tie.close (tie.spec Inv-loop μ-loop record-length-requires loop-holds slice-read-bytes shared-slice-read-bytes slice-write-bytes add-k loop-less loop-again same-length returns)
+    tie.close (tie.spec Inv-loop μ-loop record-length-requires loop-holds (λ c. omega arith) (λ c. omega arith) (λ c. omega arith) (λ c. omega arith) (λ c. omega arith) loop-again same-length returns)

@@ -6,18 +6,9 @@ use Rattle.three.proofs.Table.{entry-of-row}
 use Rattle.three.proofs.and3.Statement.{statement}
 use Rattle.three.proofs.and3.Tie as tie
 
-mul-result : tie.Need-mul-result
-mul-result c = search needs
-
-index-1-result : tie.Need-index-1-result
-index-1-result c = search needs
-
-index-2-result : tie.Need-index-2-result
-index-2-result c = search needs
-
 returns : tie.Need-returns
 unfolding gateTable
 returns c = let pre = c .before .pre in rw (pre .0) (entry-of-row 0 (λ a b. code (both (decode a) (decode b))) 3 3 _ _ (pre .1) (pre .2))
 
 pub and3-spec : {M : Type 1} → statement M
-and3-spec = tie.close (tie.spec mul-result index-1-result index-2-result returns)
+and3-spec = tie.close (tie.spec (λ c. search needs) (λ c. search needs) (λ c. search needs) returns)

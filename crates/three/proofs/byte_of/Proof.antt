@@ -6,24 +6,6 @@ use Rattle.three.proofs.Bytes.{code-decode}
 use Rattle.three.proofs.byte_of.Statement.{statement}
 use Rattle.three.proofs.byte_of.Tie as tie
 
-mul-result : tie.Need-mul-result
-mul-result c = search needs
-
-mul-result-2 : tie.Need-mul-result-2
-mul-result-2 c = search needs
-
-add-result : tie.Need-add-result
-add-result c = search needs
-
-mul-result-3 : tie.Need-mul-result-3
-mul-result-3 c = search needs
-
-add-result-2 : tie.Need-add-result-2
-add-result-2 c = search needs
-
-add-result-3 : tie.Need-add-result-3
-add-result-3 c = search needs
-
 returns : tie.Need-returns
 unfolding byteOf
 returns c =
@@ -34,4 +16,4 @@ returns c =
     omega arith
 
 pub byte-of-spec : {M : Type 1} → statement M
-byte-of-spec = tie.close (tie.spec mul-result mul-result-2 add-result mul-result-3 add-result-2 add-result-3 returns)
+byte-of-spec = tie.close (tie.spec (λ c. search needs) (λ c. search needs) (λ c. search needs) (λ c. search needs) (λ c. search needs) (λ c. search needs) returns)

@@ -11,21 +11,6 @@ use Rattle.three.proofs.Bytes.{pair-digit}
 use Rattle.three.proofs.field.Statement.{statement}
 use Rattle.three.proofs.field.Tie as tie
 
-shared-slice-read-result : tie.Need-shared-slice-read-result
-shared-slice-read-result c = search needs
-
-mul-result : tie.Need-mul-result
-mul-result c = search needs
-
-sub-result : tie.Need-sub-result
-sub-result c = search needs
-
-cast-result : tie.Need-cast-result
-cast-result c = search needs
-
-shr-result : tie.Need-shr-result
-shr-result c = search needs
-
 shifted : (byte k : ℕ) → k < 4 → byte / 2 ^ (6 - 2 * k) % 4 ≡ getD (pairs byte) k 0
 unfolding tabulate
 shifted byte k h = ap (λ unit. byte / unit % 4) (same-answers 0 (λ k. 2 ^ (6 - 2 * k)) (λ k. 4 ^ (3 - k)) 4 k refl h) ∙ sym (pair-digit byte k h)
@@ -35,4 +20,4 @@ unfolding pairAt
 returns c = shifted _ _ (omega arith)
 
 pub field-spec : {M : Type 1} → statement M
-field-spec = tie.close (tie.spec shared-slice-read-result mul-result sub-result cast-result shr-result returns)
+field-spec = tie.close (tie.spec (λ c. search needs) (λ c. search needs) (λ c. search needs) (λ c. search needs) (λ c. search needs) returns)

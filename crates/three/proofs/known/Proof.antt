@@ -6,12 +6,9 @@ use Rattle.three.proofs.Table.{entry}
 use Rattle.three.proofs.known.Statement.{statement}
 use Rattle.three.proofs.known.Tie as tie
 
-element-copy-out-result : tie.Need-element-copy-out-result
-element-copy-out-result c = search needs
-
 returns : tie.Need-returns
 unfolding knownTable
 returns c = rw (c .before .pre) (entry 0 judged 256 (c .before .args .byte) (omega arith))
 
 pub known-spec : {M : Type 1} → statement M
-known-spec = tie.close (tie.spec element-copy-out-result returns)
+known-spec = tie.close (tie.spec (λ c. search needs) returns)

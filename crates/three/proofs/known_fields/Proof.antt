@@ -23,23 +23,11 @@ record-length-requires c κs = tt
 loop-holds : tie.Need-loop-holds Inv-loop μ-loop
 loop-holds c = (omega arith, counted-first _)
 
-shared-slice-read-known : tie.Need-shared-slice-read-known Inv-loop μ-loop
-shared-slice-read-known c = omega arith
-
 known-requires : tie.Need-known-requires Inv-loop μ-loop
 known-requires c κs = c .before .before .before .before .before .known-table .ensures
 
-cast-count : tie.Need-cast-count Inv-loop μ-loop
-cast-count c = omega arith
-
 add-count : tie.Need-add-count Inv-loop μ-loop
 add-count c = let turn = c .before .before .before .before in omega (arith, counted-small _ _ _ (turn .loop .inv .1))
-
-add-k : tie.Need-add-k Inv-loop μ-loop
-add-k c = omega arith
-
-loop-less : tie.Need-loop-less Inv-loop μ-loop
-loop-less c = omega arith
 
 loop-again : tie.Need-loop-again Inv-loop μ-loop
 loop-again c =
@@ -53,4 +41,4 @@ returns c =
 
 pub known-fields-spec : {M : Type 1} → statement M
 known-fields-spec =
-    tie.close (tie.spec Inv-loop μ-loop known-table-requires record-length-requires loop-holds shared-slice-read-known known-requires cast-count add-count add-k loop-less loop-again returns)
+    tie.close (tie.spec Inv-loop μ-loop known-table-requires record-length-requires loop-holds (λ c. omega arith) known-requires (λ c. omega arith) add-count (λ c. omega arith) (λ c. omega arith) loop-again returns)

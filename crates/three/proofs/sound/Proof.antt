@@ -49,44 +49,17 @@ record-length-requires c κs = tt
 loop-holds : tie.Need-loop-holds Inv-loop μ-loop
 loop-holds c = tried-first _ _
 
-shared-slice-read-known : tie.Need-shared-slice-read-known Inv-loop μ-loop
-shared-slice-read-known c = omega arith
-
 known-requires : tie.Need-known-requires Inv-loop μ-loop
 known-requires c κs = c .before .before .before .before .before .pre .0
 
 returns : tie.Need-returns Inv-loop μ-loop
 returns c = refused _ _ _ (omega arith) (sym (c .before .known .ensures) ∙ c .if1 .taken)
 
-add-k : tie.Need-add-k Inv-loop μ-loop
-add-k c = omega arith
-
-loop-less : tie.Need-loop-less Inv-loop μ-loop
-loop-less c = omega arith
-
 loop-again : tie.Need-loop-again Inv-loop μ-loop
 loop-again c = tried-next _ _ (c .before .before .before .before .loop .inv) (omega arith) refl (ap not (sym (judged-bad _) ∙ ne-eqb _ _ (λ e. c .if1 .left (c .before .known .ensures ∙ e))))
 
-sub-last : tie.Need-sub-last Inv-loop μ-loop
-sub-last c = omega arith
-
-shared-slice-read-last : tie.Need-shared-slice-read-last Inv-loop μ-loop
-shared-slice-read-last c = omega arith
-
 cast-last : tie.Need-cast-last Inv-loop μ-loop
 cast-last c = omega (arith, c .shared-slice-known3 .given (c .before .before .before .record-length .result - 1))
-
-mul-result : tie.Need-mul-result Inv-loop μ-loop
-mul-result c = omega arith
-
-sub-result : tie.Need-sub-result Inv-loop μ-loop
-sub-result c = omega arith
-
-mul-result-2 : tie.Need-mul-result-2 Inv-loop μ-loop
-mul-result-2 c = omega arith
-
-shl-result : tie.Need-shl-result Inv-loop μ-loop
-shl-result c = omega arith
 
 rem-result : tie.Need-rem-result Inv-loop μ-loop
 rem-result c = unit-pos (4 * c .before .before .before .record-length .result - c .before .before .before .before .before .args .fields) (omega arith)
@@ -97,4 +70,4 @@ returns-2 c = accepted _ _ _ _ (c .before .before .before .record-length .ensure
 pub sound-spec : {M : Type 1} → statement M
 sound-spec =
     tie.close
-    (tie.spec Inv-loop μ-loop record-length-requires loop-holds shared-slice-read-known known-requires returns add-k loop-less loop-again sub-last shared-slice-read-last cast-last mul-result sub-result mul-result-2 shl-result rem-result returns-2)
+    (tie.spec Inv-loop μ-loop record-length-requires loop-holds (λ c. omega arith) known-requires returns (λ c. omega arith) (λ c. omega arith) loop-again (λ c. omega arith) (λ c. omega arith) cast-last (λ c. omega arith) (λ c. omega arith) (λ c. omega arith) (λ c. omega arith) rem-result returns-2)

@@ -7,29 +7,14 @@ use borrow.Author.Needs.{needs}
 use Rattle.tick.proofs.record_refusal.Statement.{statement}
 use Rattle.tick.proofs.record_refusal.Tie as tie
 
-record-length-requires : tie.Need-record-length-requires
-record-length-requires c κs = search needs
-
 returns : tie.Need-returns
 returns c = state-short _ _ _ (omega arith)
-
-record-length-requires-2 : tie.Need-record-length-requires-2
-record-length-requires-2 c κs = search needs
 
 returns-2 : tie.Need-returns-2
 returns-2 c = switches-short _ _ _ (omega arith) (omega arith)
 
-known-table-requires : tie.Need-known-table-requires
-known-table-requires c κs = search needs
-
-sound-requires : tie.Need-sound-requires
-sound-requires c κs = search needs
-
 returns-3 : tie.Need-returns-3
 returns-3 c = state-bad _ _ _ (omega arith) (omega arith) (sym (c .before .sound .ensures) ∙ not-true _ (c .if3 .taken))
-
-sound-requires-2 : tie.Need-sound-requires-2
-sound-requires-2 c κs = search needs
 
 returns-4 : tie.Need-returns-4
 returns-4 c = switches-bad _ _ _ (omega arith) (omega arith) (sym (c .before .before .before .before .sound .ensures) ∙ not-false _ (c .before .before .before .if3 .left)) (sym (c .before .sound2 .ensures) ∙ not-true _ (c .if4 .taken))
@@ -41,13 +26,13 @@ pub record-refusal-spec : {M : Type 1} → statement M
 record-refusal-spec =
     tie.close
     (tie.spec
-    record-length-requires
+    (λ c κs. search needs)
     returns
-    record-length-requires-2
+    (λ c κs. search needs)
     returns-2
-    known-table-requires
-    sound-requires
+    (λ c κs. search needs)
+    (λ c κs. search needs)
     returns-3
-    sound-requires-2
+    (λ c κs. search needs)
     returns-4
     returns-5)

@@ -5,9 +5,6 @@ use borrow.Author.Needs.{needs}
 use Rattle.tick.proofs.tick.Statement.{statement}
 use Rattle.tick.proofs.tick.Tie as tie
 
-tick-refusal-requires : tie.Need-tick-refusal-requires
-tick-refusal-requires c κs = search needs
-
 returns : tie.Need-returns
 returns c = tick-refused _ (c .before .tick-refusal .ensures) (c .if1 .taken)
 
@@ -15,12 +12,6 @@ tick-into-requires : tie.Need-tick-into-requires
 tick-into-requires c κs =
     let ok = accepted-tick _ _ _ _ _ _ (sym (c .before .before .if1 .left) ∙ c .before .before .before .tick-refusal .ensures) in
     (ok .legal-circuit, ok .given-state, ok .given-switches, ok .next-fits, ok .lamps-fit)
-
-same-length : tie.Need-same-length
-same-length c = search needs
-
-same-length-2 : tie.Need-same-length-2
-same-length-2 c = search needs
 
 returns-2 : tie.Need-returns-2
 returns-2 c =
@@ -30,4 +21,4 @@ returns-2 c =
 pub tick-spec : {M : Type 1} → statement M
 tick-spec =
     tie.close
-    (tie.spec tick-refusal-requires returns tick-into-requires same-length same-length-2 returns-2)
+    (tie.spec (λ c κs. search needs) returns tick-into-requires (λ c. search needs) (λ c. search needs) returns-2)

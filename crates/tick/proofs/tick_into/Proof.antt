@@ -8,9 +8,6 @@ use borrow.Author.Needs.{needs}
 use Rattle.tick.proofs.tick_into.Statement.{statement}
 use Rattle.tick.proofs.tick_into.Tie as tie
 
-fresh-values-requires : tie.Need-fresh-values-requires
-fresh-values-requires c κs = search needs
-
 settle-requires : tie.Need-settle-requires
 settle-requires c κs =
     let pre = c .before .before .before .before .before .before .before .pre in
@@ -21,19 +18,10 @@ store-requires c κs =
     let pre = c .before .before .before .before .before .before .before .before .before .before .pre in
     (next-readable _ _ (pre .0), c .before .before .settle .ensures .working, omega arith, pre .3)
 
-literals-at-requires : tie.Need-literals-at-requires
-literals-at-requires c κs = search needs
-
 store-requires-2 : tie.Need-store-requires-2
 store-requires-2 c κs =
     let pre = c .before .before .before .before .before .before .before .before .before .before .before .before .before .before .before .before .pre in
     (rw (c .before .before .literals-at .ensures) (lamps-readable _ _ (pre .0)), c .before .before .before .before .before .before .before .before .settle .ensures .working, omega arith, pre .4)
-
-same-length : tie.Need-same-length
-same-length c = search needs
-
-same-length-2 : tie.Need-same-length-2
-same-length-2 c = search needs
 
 returns : tie.Need-returns
 unfolding nextFields lampFields
@@ -48,11 +36,11 @@ pub tick-into-spec : {M : Type 1} → statement M
 tick-into-spec =
     tie.close
     (tie.spec
-    fresh-values-requires
+    (λ c κs. search needs)
     settle-requires
     store-requires
-    literals-at-requires
+    (λ c κs. search needs)
     store-requires-2
-    same-length
-    same-length-2
+    (λ c. search needs)
+    (λ c. search needs)
     returns)

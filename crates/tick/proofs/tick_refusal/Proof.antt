@@ -3,13 +3,9 @@ use native.Mathlib.Omega.{arith}
 use mathlib.Core.Path.{sym, _∙_}
 use Rattle.circuit.proofs.Legality.{legal}
 use Rattle.tick.proofs.Ticking.{circuit-refuses, records-refuse, next-short, lamps-short, tick-passes}
-use native.Mathlib.Omega.{arith}
 use borrow.Author.Needs.{needs}
 use Rattle.tick.proofs.tick_refusal.Statement.{statement}
 use Rattle.tick.proofs.tick_refusal.Tie as tie
-
-circuit-refusal-requires : tie.Need-circuit-refusal-requires
-circuit-refusal-requires c κs = search needs
 
 returns : tie.Need-returns
 returns c = circuit-refuses _ _ _ _ _ _ _ (c .before .circuit-refusal .ensures) (c .if1 .taken)
@@ -20,14 +16,8 @@ record-refusal-requires c κs = legal _ _ (sym (c .if1 .left) ∙ c .before .cir
 returns-2 : tie.Need-returns-2
 returns-2 c = records-refuse _ _ _ _ _ _ (sym (c .before .before .if1 .left) ∙ c .before .before .before .circuit-refusal .ensures) _ (c .before .record-refusal .ensures) (c .if2 .taken)
 
-record-length-requires : tie.Need-record-length-requires
-record-length-requires c κs = search needs
-
 returns-3 : tie.Need-returns-3
 returns-3 c = next-short _ _ _ _ _ _ (sym (c .before .before .before .before .if1 .left) ∙ c .before .before .before .before .before .circuit-refusal .ensures) (sym (c .before .before .if2 .left) ∙ c .before .before .before .record-refusal .ensures) (omega arith)
-
-record-length-requires-2 : tie.Need-record-length-requires-2
-record-length-requires-2 c κs = search needs
 
 returns-4 : tie.Need-returns-4
 returns-4 c = lamps-short _ _ _ _ _ _ (sym (c .before .before .before .before .before .before .if1 .left) ∙ c .before .before .before .before .before .before .before .circuit-refusal .ensures) (sym (c .before .before .before .before .if2 .left) ∙ c .before .before .before .before .before .record-refusal .ensures) (omega arith) (omega arith)
@@ -39,12 +29,12 @@ pub tick-refusal-spec : {M : Type 1} → statement M
 tick-refusal-spec =
     tie.close
     (tie.spec
-    circuit-refusal-requires
+    (λ c κs. search needs)
     returns
     record-refusal-requires
     returns-2
-    record-length-requires
+    (λ c κs. search needs)
     returns-3
-    record-length-requires-2
+    (λ c κs. search needs)
     returns-4
     returns-5)

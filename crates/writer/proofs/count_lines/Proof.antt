@@ -23,17 +23,8 @@ line-length-requires c κs = c .written-line .ensures .small
 add-end : tie.Need-add-end Inv-loop μ-loop
 add-end c = omega (arith, line-room _ _ _ _ _ _ (c .before .before .before .loop .inv) (c .before .before .loop-test .taken) (c .before .written-line .ensures))
 
-add-due : tie.Need-add-due Inv-loop μ-loop
-add-due c = omega arith
-
 add-word : tie.Need-add-word Inv-loop μ-loop
 add-word c = omega (arith, word-room _ _ _ _ _ _ (c .before .before .before .before .loop .inv) (c .before .before .before .loop-test .taken))
-
-add-i : tie.Need-add-i Inv-loop μ-loop
-add-i c = omega arith
-
-loop-less : tie.Need-loop-less Inv-loop μ-loop
-loop-less c = omega arith
 
 loop-again : tie.Need-loop-again Inv-loop μ-loop
 loop-again c = lines-next _ _ _ _ _ _ (c .before .before .before .before .loop .inv) (c .before .before .before .loop-test .taken) (c .before .before .written-line .ensures) (omega arith)
@@ -51,9 +42,9 @@ count-lines-spec =
     written-line-requires
     line-length-requires
     add-end
-    add-due
+    (λ c. omega arith)
     add-word
-    add-i
-    loop-less
+    (λ c. omega arith)
+    (λ c. omega arith)
     loop-again
     returns)

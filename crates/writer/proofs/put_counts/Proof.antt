@@ -25,9 +25,6 @@ put-word-requires-4 c κs =
     let start = c .before .before .before .before .before .before .before .before .before .before .before .before .before .before in
     omega (arith, counts-length (start .args .counts))
 
-same-length : tie.Need-same-length
-same-length c = omega arith
-
 returns : tie.Need-returns
 returns c =
     let gates = c .before .before in
@@ -46,5 +43,5 @@ put-counts-spec =
     put-word-requires-2
     put-word-requires-3
     put-word-requires-4
-    same-length
+    (λ c. omega arith)
     returns)

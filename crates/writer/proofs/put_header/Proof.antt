@@ -10,12 +10,6 @@ put-magic-requires c κs =
     let start = c .before .before in
     omega (arith, head-length (start .args .counts))
 
-add-put-word : tie.Need-add-put-word
-add-put-word c = omega arith
-
-add-put-word-2 : tie.Need-add-put-word-2
-add-put-word-2 c = omega arith
-
 put-word-requires : tie.Need-put-word-requires
 put-word-requires c κs =
     let start = c .before .before .before .before .before .before .before .before in
@@ -25,9 +19,6 @@ put-counts-requires : tie.Need-put-counts-requires
 put-counts-requires c κs =
     let start = c .before .before .before .before .before .before .before .before .before .before .before .before in
     (start .pre .0, omega (arith, head-length (start .args .counts)))
-
-same-length : tie.Need-same-length
-same-length c = omega arith
 
 returns : tie.Need-returns
 returns c =
@@ -42,9 +33,9 @@ put-header-spec =
     tie.close
     (tie.spec
     put-magic-requires
-    add-put-word
-    add-put-word-2
+    (λ c. omega arith)
+    (λ c. omega arith)
     put-word-requires
     put-counts-requires
-    same-length
+    (λ c. omega arith)
     returns)

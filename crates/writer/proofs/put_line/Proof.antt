@@ -8,9 +8,6 @@ use Rattle.writer.proofs.put_line.Tie as tie
 put-word-requires : tie.Need-put-word-requires
 put-word-requires c κs = omega (arith, none-length (c .before .before .before .before .args .line) (c .before .if1 .taken))
 
-same-length : tie.Need-same-length
-same-length c = omega arith
-
 returns : tie.Need-returns
 returns c =
     let none = c .before .before .before .before in
@@ -25,9 +22,6 @@ put-word-requires-3 c κs =
     let some = c .before .before .before .before .before .before .before in
     let start = some .before .before .before in
     omega (arith, some-length (start .args .line) (some .if1 .left))
-
-same-length-2 : tie.Need-same-length-2
-same-length-2 c = omega arith
 
 returns-2 : tie.Need-returns-2
 returns-2 c =
@@ -50,9 +44,6 @@ put-word-requires-5 c κs =
     let start = some .before .before .before in
     omega (arith, two-length (start .args .line) (some .if1 .left) (two .if2 .left))
 
-same-length-3 : tie.Need-same-length-3
-same-length-3 c = omega arith
-
 returns-3 : tie.Need-returns-3
 returns-3 c =
     let third = c .before .before in
@@ -69,13 +60,13 @@ put-line-spec =
     tie.close
     (tie.spec
     put-word-requires
-    same-length
+    (λ c. omega arith)
     returns
     put-word-requires-2
     put-word-requires-3
-    same-length-2
+    (λ c. omega arith)
     returns-2
     put-word-requires-4
     put-word-requires-5
-    same-length-3
+    (λ c. omega arith)
     returns-3)

@@ -21,19 +21,10 @@ put-line-requires : tie.Need-put-line-requires Inv-loop μ-loop
 put-line-requires c κs =
     (c .before .written-line .ensures .small, omega (arith, line-room _ _ _ _ _ _ (c .before .before .before .loop .inv .lines) (c .before .before .loop-test .taken) (c .before .written-line .ensures)))
 
-add-due : tie.Need-add-due Inv-loop μ-loop
-add-due c = omega arith
-
 add-word : tie.Need-add-word Inv-loop μ-loop
 add-word c =
     let turn = c .before .before .before .before .before .before in
     omega (arith, word-room _ _ _ _ _ _ (turn .before .loop .inv .lines) (turn .loop-test .taken))
-
-add-i : tie.Need-add-i Inv-loop μ-loop
-add-i c = omega arith
-
-loop-less : tie.Need-loop-less Inv-loop μ-loop
-loop-less c = omega arith
 
 loop-again : tie.Need-loop-again Inv-loop μ-loop
 loop-again c =
@@ -57,10 +48,10 @@ put-lines-spec =
     loop-holds
     written-line-requires
     put-line-requires
-    add-due
+    (λ c. omega arith)
     add-word
-    add-i
-    loop-less
+    (λ c. omega arith)
+    (λ c. omega arith)
     loop-again
     same-length
     returns)

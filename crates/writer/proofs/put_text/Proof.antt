@@ -6,24 +6,6 @@ use native.Mathlib.Omega.{arith}
 use Rattle.writer.proofs.put_text.Statement.{statement}
 use Rattle.writer.proofs.put_text.Tie as tie
 
-mul-latch : tie.Need-mul-latch
-mul-latch c = omega arith
-
-add-latch : tie.Need-add-latch
-add-latch c = omega arith
-
-mul-gate : tie.Need-mul-gate
-mul-gate c = omega arith
-
-add-gate : tie.Need-add-gate
-add-gate c = omega arith
-
-literals-at-requires : tie.Need-literals-at-requires
-literals-at-requires c κs = omega arith
-
-gates-at-requires : tie.Need-gates-at-requires
-gates-at-requires c κs = omega arith
-
 put-header-requires : tie.Need-put-header-requires
 put-header-requires c κs =
     let start = c .before .before .before .before .before .before .before in
@@ -38,9 +20,6 @@ put-lines-requires-2 : tie.Need-put-lines-requires-2
 put-lines-requires-2 c κs =
     let start = c .before .before .before .before .before .before .before .before .before .before .before .before .before .before .before in
     (lines-latches _ _ (start .pre), omega (arith, text-length (start .args .counts) (start .args .table .now)))
-
-literals-requires : tie.Need-literals-requires
-literals-requires c κs = omega arith
 
 put-lines-requires-3 : tie.Need-put-lines-requires-3
 put-lines-requires-3 c κs =
@@ -57,9 +36,6 @@ put-lines-requires-4 c κs =
     let gates = gate-lines (start .args .counts) (start .args .table .now) (words .gates-at .ensures) in
     (rw (words .gates-at .ensures) (lines-gates _ _ (start .pre)), omega (arith, text-length (start .args .counts) (start .args .table .now), ap length lamps, ap length gates, c .before .before .before .put-lines3 .ensures, c .before .before .before .before .before .before .before .before .put-lines2 .ensures, c .before .before .before .before .before .before .before .before .before .before .before .before .put-lines .ensures, c .before .before .before .before .before .before .before .before .before .before .before .before .before .before .before .before .put-header .ensures, start .pre .fits))
 
-same-length : tie.Need-same-length
-same-length c = omega arith
-
 returns : tie.Need-returns
 returns c =
     let gates = c .before .before in
@@ -73,17 +49,17 @@ pub put-text-spec : {M : Type 1} → statement M
 put-text-spec =
     tie.close
     (tie.spec
-    mul-latch
-    add-latch
-    mul-gate
-    add-gate
-    literals-at-requires
-    gates-at-requires
+    (λ c. omega arith)
+    (λ c. omega arith)
+    (λ c. omega arith)
+    (λ c. omega arith)
+    (λ c κs. omega arith)
+    (λ c κs. omega arith)
     put-header-requires
     put-lines-requires
     put-lines-requires-2
-    literals-requires
+    (λ c κs. omega arith)
     put-lines-requires-3
     put-lines-requires-4
-    same-length
+    (λ c. omega arith)
     returns)

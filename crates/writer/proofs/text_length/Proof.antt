@@ -6,27 +6,6 @@ use native.Mathlib.Omega.{arith}
 use Rattle.writer.proofs.text_length.Statement.{statement}
 use Rattle.writer.proofs.text_length.Tie as tie
 
-mul-latch : tie.Need-mul-latch
-mul-latch c = omega arith
-
-add-latch : tie.Need-add-latch
-add-latch c = omega arith
-
-mul-gate : tie.Need-mul-gate
-mul-gate c = omega arith
-
-add-gate : tie.Need-add-gate
-add-gate c = omega arith
-
-literals-at-requires : tie.Need-literals-at-requires
-literals-at-requires c κs = omega arith
-
-gates-at-requires : tie.Need-gates-at-requires
-gates-at-requires c κs = omega arith
-
-header-length-requires : tie.Need-header-length-requires
-header-length-requires c κs = omega arith
-
 count-lines-requires : tie.Need-count-lines-requires
 count-lines-requires c κs =
     let start = c .before .before .before .before .before .before in
@@ -36,9 +15,6 @@ count-lines-requires-2 : tie.Need-count-lines-requires-2
 count-lines-requires-2 c κs =
     let start = c .before .before .before .before .before .before .before in
     (lines-latches _ _ (start .pre), omega (arith, text-length (start .args .counts) (start .args .table .now)))
-
-literals-requires : tie.Need-literals-requires
-literals-requires c κs = omega arith
 
 count-lines-requires-3 : tie.Need-count-lines-requires-3
 count-lines-requires-3 c κs =
@@ -67,16 +43,16 @@ pub text-length-spec : {M : Type 1} → statement M
 text-length-spec =
     tie.close
     (tie.spec
-    mul-latch
-    add-latch
-    mul-gate
-    add-gate
-    literals-at-requires
-    gates-at-requires
-    header-length-requires
+    (λ c. omega arith)
+    (λ c. omega arith)
+    (λ c. omega arith)
+    (λ c. omega arith)
+    (λ c κs. omega arith)
+    (λ c κs. omega arith)
+    (λ c κs. omega arith)
     count-lines-requires
     count-lines-requires-2
-    literals-requires
+    (λ c κs. omega arith)
     count-lines-requires-3
     count-lines-requires-4
     returns)

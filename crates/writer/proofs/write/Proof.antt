@@ -4,9 +4,6 @@ use native.Mathlib.Omega.{arith}
 use Rattle.writer.proofs.write.Statement.{statement}
 use Rattle.writer.proofs.write.Tie as tie
 
-circuit-refusal-requires : tie.Need-circuit-refusal-requires
-circuit-refusal-requires c κs = omega arith
-
 returns : tie.Need-returns
 returns c = written-stops _ _ _ _ (c .before .circuit-refusal .ensures) (c .if1 .taken)
 
@@ -22,9 +19,6 @@ put-text-requires c κs =
     let ready = written-ready _ _ (passed .before .circuit-refusal .ensures) (passed .if1 .left) in
     record { bounded = ready .bounded; long = ready .long; small = ready .small; fits = omega arith }
 
-same-length : tie.Need-same-length
-same-length c = omega arith
-
 returns-3 : tie.Need-returns-3
 returns-3 c =
     let passed = c .before .before .before .before .before .before in
@@ -34,10 +28,10 @@ pub write-spec : {M : Type 1} → statement M
 write-spec =
     tie.close
     (tie.spec
-    circuit-refusal-requires
+    (λ c κs. omega arith)
     returns
     text-length-requires
     returns-2
     put-text-requires
-    same-length
+    (λ c. omega arith)
     returns-3)

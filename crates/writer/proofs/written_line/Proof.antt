@@ -10,9 +10,6 @@ use Rattle.writer.proofs.written_line.Tie as tie
 returns : tie.Need-returns
 returns c = shows-input _ _ _ (c .if1 .taken) (omega arith)
 
-mul-left : tie.Need-mul-left
-mul-left c = search needs
-
 shared-slice-read-left : tie.Need-shared-slice-read-left
 shared-slice-read-left c = let start = c .before .before .before in omega (arith, width-some (start .args .kind) (start .args .own) (c .before .if1 .left))
 
@@ -25,12 +22,6 @@ returns-2 c =
     let start = first .before .before in
     let wide = width-some (start .args .kind) (start .args .own) (first .if1 .left) in
     shows-lamp _ _ _ (c .if2 .taken) (start .pre .2 _ (omega (arith, wide)))
-
-add-right : tie.Need-add-right
-add-right c = search needs
-
-mul-right : tie.Need-mul-right
-mul-right c = search needs
 
 shared-slice-read-right : tie.Need-shared-slice-read-right
 shared-slice-read-right c = let start = c .before .before .before .before .before in omega (arith, width-two (start .args .kind) (start .args .own) (c .before .before .before .if1 .left) (c .before .if2 .left))
@@ -62,12 +53,12 @@ written-line-spec =
     tie.close
     (tie.spec
     returns
-    mul-left
+    (λ c. search needs)
     shared-slice-read-left
     cast-left
     returns-2
-    add-right
-    mul-right
+    (λ c. search needs)
+    (λ c. search needs)
     shared-slice-read-right
     cast-right
     latch-line-requires

@@ -6,26 +6,8 @@ use borrow.Author.Needs.{needs}
 use Rattle.chain.proofs.Progress.advance.Statement.{statement}
 use Rattle.chain.proofs.Progress.advance.Tie as tie
 
-mul-at : tie.Need-mul-at
-mul-at c = search needs
-
-due-requires : tie.Need-due-requires
-due-requires c κs = search needs
-
 sub-held-after : tie.Need-sub-held-after
 sub-held-after c = behind-one _ (c .before .before .before .before .before .pre .0)
-
-held-after-requires : tie.Need-held-after-requires
-held-after-requires c κs = search needs
-
-store-kept-requires : tie.Need-store-kept-requires
-store-kept-requires c κs = search needs
-
-add-self : tie.Need-add-self
-add-self c = search needs
-
-same-length : tie.Need-same-length
-same-length c = search needs
 
 returns : tie.Need-returns
 returns c =
@@ -39,11 +21,11 @@ pub advance-spec : {M : Type 1} → statement M
 advance-spec =
     tie.close
     (tie.spec
-    mul-at
-    due-requires
+    (λ c. search needs)
+    (λ c κs. search needs)
     sub-held-after
-    held-after-requires
-    store-kept-requires
-    add-self
-    same-length
+    (λ c κs. search needs)
+    (λ c κs. search needs)
+    (λ c. search needs)
+    (λ c. search needs)
     returns)

@@ -11,24 +11,6 @@ Inv-loop list at end₀ end = (at ≤ end) × (end ≤ length list)
 abbrev μ-loop : tie.MeasureT-loop
 μ-loop list at end₀ end = length list - end
 
-loop-holds : tie.Need-loop-holds Inv-loop μ-loop
-loop-holds c = omega arith
-
-shared-slice-read-if1 : tie.Need-shared-slice-read-if1 Inv-loop μ-loop
-shared-slice-read-if1 c = omega arith
-
-add-end : tie.Need-add-end Inv-loop μ-loop
-add-end c = omega arith
-
-loop-less : tie.Need-loop-less Inv-loop μ-loop
-loop-less c = omega arith
-
-loop-again : tie.Need-loop-again Inv-loop μ-loop
-loop-again c = omega arith
-
-returns : tie.Need-returns Inv-loop μ-loop
-returns c = omega arith
-
 returns-2 : tie.Need-returns-2 Inv-loop μ-loop
 returns-2 c = omega arith
 
@@ -38,10 +20,10 @@ line-end-spec =
     (tie.spec
     Inv-loop
     μ-loop
-    loop-holds
-    shared-slice-read-if1
-    add-end
-    loop-less
-    loop-again
-    returns
+    (λ c. omega arith)
+    (λ c. omega arith)
+    (λ c. omega arith)
+    (λ c. omega arith)
+    (λ c. omega arith)
+    (λ c. omega arith)
     returns-2)
