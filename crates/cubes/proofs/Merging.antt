@@ -1,5 +1,5 @@
 -- A loop that merges one record after another into a buffer: it has merged those from `base` up to, not including, k. Assumes nothing.
-use mathlib.Core.Path.{_≡_, sym, ap, ap₂, _∙_}
+use mathlib.Core.Path.{_≡_, refl, sym, ap, ap₂, _∙_}
 use mathlib.Core.List.{List, _++_}
 use Prim.Native.Nat.{ℕ, suc, _+_, _-_, _≤_}
 use native.Mathlib.Omega.{arith}
@@ -35,44 +35,48 @@ module _ (size : ℕ) (f : ℕ → Cube) (sized : (k : ℕ) → length (f k) ≡
   pub record Merged (e : List ℕ) (k : ℕ) : Type 0 where
     pub more : ℕ
     pub place : k ≡ base + suc more
+    pub room : bytesFor size ≤ length d
     pub same : e ≡ over (pack (merge f base more)) d
 
   pack-merged : (more : ℕ) → length (pack (merge f base more)) ≡ bytesFor size
   pack-merged more = rw (length-pack, merge-sized f size sized base more)
+
+  pub merged-record : {e : List ℕ} {k : ℕ} → Merged e k → IsRecord size e
+  merged-record m = rw (m .same) (record-over size (merge f base (m .more)) d (merge-sized f size sized base (m .more)) (m .room))
+
+  pub merged-length : {e : List ℕ} {k : ℕ} → Merged e k → length e ≡ length d
+  merged-length m = ap length (m .same) ∙ length-over _ d (omega (arith, pack-merged (m .more), m .room))
+
+  pub merged-next : {e e′ : List ℕ} {k : ℕ} {x : Cube} → Merged e k → x ≡ f k → e′ ≡ over (pack (merged (unpack size e) x)) e → Merged e′ (k + 1)
+  unfolding merge
+  merged-next {e} {e′} {k} {x} m ex ee = record {
+    more = suc (m .more);
+    place = omega (arith, m .place);
+    room = m .room;
+    same =
+        let whole : unpack size e ≡ merge f base (m .more) = rw (m .same) (unpack-over size (merge f base (m .more)) d (merge-sized f size sized base (m .more))) in
+        let both : merged (unpack size e) x ≡ merge f base (suc (m .more)) = ap₂ merged whole (ex ∙ ap f (m .place)) in
+        ee ∙ ap₂ (λ (v : Cube) (l : List ℕ). over (pack v) l) both (m .same)
+        ∙ over-over (pack (merge f base (m .more))) (pack (merge f base (suc (m .more)))) d (omega (arith, pack-merged (m .more), pack-merged (suc (m .more))));
+  }
 
   -- f base was put there first, over what was lent
   module _ (entry : List ℕ) (fits : bytesFor size ≤ length entry) (begun : d ≡ over (pack (f base)) entry) where
     first-long : length (pack (f base)) ≡ bytesFor size
     first-long = rw (length-pack, sized base)
 
-    begun-long : length d ≡ length entry
-    begun-long = ap length begun ∙ length-over _ entry (omega (arith, first-long))
-
-    pub merged-first : (k : ℕ) → k ≡ base + 1 → Merged d k
+    pub merged-first : Merged d (base + 1)
     unfolding merge
-    merged-first k p = record { more = 0; place = p; same = begun ∙ sym (ap (over (pack (f base))) begun ∙ over-over _ _ entry (omega arith)) }
-
-    pub merged-record : (e : List ℕ) (k : ℕ) → Merged e k → IsRecord size e
-    merged-record e k m = rw (m .same) (record-over size (merge f base (m .more)) d (merge-sized f size sized base (m .more)) (omega (arith, begun-long)))
-
-    pub merged-length : (e : List ℕ) (k : ℕ) → Merged e k → length e ≡ length entry
-    merged-length e k m = ap length (m .same) ∙ length-over _ d (omega (arith, pack-merged (m .more), begun-long)) ∙ begun-long
-
-    pub merged-next : (e e′ : List ℕ) (k : ℕ) (x : Cube) → Merged e k → x ≡ f k → e′ ≡ over (pack (merged (unpack size e) x)) e → Merged e′ (k + 1)
-    unfolding merge
-    merged-next e e′ k x m ex ee = record {
-      more = suc (m .more);
-      place = omega (arith, m .place);
-      same =
-          let whole : unpack size e ≡ merge f base (m .more) = rw (m .same) (unpack-over size (merge f base (m .more)) d (merge-sized f size sized base (m .more))) in
-          let both : merged (unpack size e) x ≡ merge f base (suc (m .more)) = ap₂ merged whole (ex ∙ ap f (m .place)) in
-          ee ∙ ap₂ (λ (v : Cube) (l : List ℕ). over (pack v) l) both (m .same)
-          ∙ over-over (pack (merge f base (m .more))) (pack (merge f base (suc (m .more)))) d (omega (arith, pack-merged (m .more), pack-merged (suc (m .more))));
+    merged-first = record {
+      more = 0;
+      place = refl;
+      room = omega (arith, ap length begun ∙ length-over _ entry (omega (arith, first-long)));
+      same = begun ∙ sym (ap (over (pack (f base))) begun ∙ over-over _ _ entry (omega arith));
     }
 
-    pub merged-last : (none : Cube) (e : List ℕ) (k n : ℕ) → Merged e k → k ≡ n → e ≡ over (pack (mergeFrom none f base (n - base))) entry
+    pub merged-last : (none : Cube) {e : List ℕ} {k : ℕ} (n : ℕ) → Merged e k → k ≡ n → e ≡ over (pack (mergeFrom none f base (n - base))) entry
     unfolding mergeFrom
-    merged-last none e k n m h =
+    merged-last none n m h =
         let all : suc (m .more) ≡ n - base = omega (arith, m .place) in
         m .same ∙ ap (over (pack (merge f base (m .more)))) begun ∙ over-over (pack (f base)) _ entry (omega (arith, first-long, pack-merged (m .more)))
         ∙ ap (λ (count : ℕ). over (pack (mergeFrom none f base count)) entry) all

@@ -1,5 +1,5 @@
 -- The judge's first loop: the lamps merged over all cubes. Assumes nothing.
-use mathlib.Core.Path.{_≡_, refl, sym, ap, _∙_}
+use mathlib.Core.Path.{_≡_, sym, ap, _∙_}
 use mathlib.Core.List.{List}
 use Prim.Native.Nat.{ℕ, _+_, _*_, _-_, _<_, _≤_}
 use native.Mathlib.Nat.{zero-mul, suc-mul, sub-zero, mul-le-mul-right}
@@ -20,7 +20,7 @@ use Rattle.cubes.specs.BufferInCode.{IsCube}
 use Rattle.cubes.specs.Buffer.{cubeOf, cubeIn}
 use Rattle.cubes.proofs.StoredCube.{cube-at}
 use Rattle.judge.specs.JudgeInCode.{Judgeable}
-use Rattle.cubes.proofs.Merging.{length-over, Merged, merged-first, merged-record, merged-length, merged-next, merged-last}
+use Rattle.cubes.proofs.Merging.{length-over, Merged, merged-first, merged-next, merged-last}
 use Rattle.cubes.proofs.Buffered.{lamps-counted}
 
 -- where a cube stands
@@ -46,9 +46,6 @@ module _ (c : Counts) (words : List ℕ) (len n : ℕ) (cubes : List ℕ) (j : J
   pub few-lamps : bytesFor (c .lamps) ≤ 16
   few-lamps = omega (arith, j .legal .bounded .lamps)
 
-  pub lamps-fit : (l : List ℕ) → length l ≡ 16 → bytesFor (c .lamps) ≤ length l
-  lamps-fit l e = omega (arith, few-lamps)
-
   pub lamp-place : (k : ℕ) → k < n → k * len ≤ length cubes
   lamp-place k h = omega (arith, place-below n len k (length cubes) h (j .fits))
 
@@ -58,35 +55,26 @@ module _ (c : Counts) (words : List ℕ) (len n : ℕ) (cubes : List ℕ) (j : J
   abbrev lampsAt : ℕ → Cube
   lampsAt = lampsOf c words cubes
 
-  lamps-long : (k : ℕ) → length (pack (lampsAt k)) ≡ bytesFor (c .lamps)
-  lamps-long k = rw (length-pack, lamps-sized c words cubes k)
+  module _ (k : ℕ) (lamps₀ : List ℕ) {lamps₁ : List ℕ} (wide : length lamps₀ ≡ 16) (read : lamps₁ ≡ over (pack (lampsIn circuit (cubeOf (c .latches) (drop (k * len) cubes)))) lamps₀) where
+    read-of : lamps₁ ≡ over (pack (lampsAt k)) lamps₀
+    read-of = read ∙ ap (λ (v : Cube). over (pack (lampsIn circuit v)) lamps₀) (cube-at _ (j .size) cubes k)
 
-  module _ (entry : List ℕ) (room : bytesFor (c .lamps) ≤ length entry) (begun : List ℕ) (first : begun ≡ over (pack (lampsIn circuit (cubeOf (c .latches) cubes))) entry) where
+    pub lamps-record : IsRecord (c .lamps) lamps₁
+    lamps-record = rw read-of (record-over (c .lamps) (lampsAt k) lamps₀ (lamps-sized c words cubes k) (omega (arith, few-lamps)))
+
+    pub lamps-length : length lamps₁ ≡ 16
+    lamps-length = ap length read-of ∙ length-over _ lamps₀ (rw (length-pack, lamps-sized c words cubes k) (omega (arith, few-lamps))) ∙ wide
+
+    pub judged-next : {begun e e′ : List ℕ} → Judged c words cubes begun e k → e′ ≡ over (pack (merged (unpack (c .lamps) e) (unpack (c .lamps) lamps₁))) e → Judged c words cubes begun e′ (k + 1)
+    judged-next m ee = merged-next _ _ _ _ _ m (rw read-of (unpack-over (c .lamps) (lampsAt k) lamps₀ (lamps-sized c words cubes k))) ee
+
+  module _ (entry : List ℕ) (room : bytesFor (c .lamps) ≤ length entry) {begun : List ℕ} (first : begun ≡ over (pack (lampsIn circuit (cubeOf (c .latches) cubes))) entry) where
     begun-with : begun ≡ over (pack (lampsAt 0)) entry
     begun-with = first ∙ ap (λ (v : Cube). over (pack (lampsIn circuit v)) entry) (ap (λ (m : ℕ). cubeOf (c .latches) (drop m cubes)) (sym (zero-mul len)) ∙ cube-at _ (j .size) cubes 0)
 
     pub judged-first : Judged c words cubes begun begun 1
-    judged-first = merged-first _ _ _ _ _ entry room begun-with 1 refl
+    judged-first = merged-first _ _ _ _ _ entry room begun-with
 
-    pub judged-record : (e : List ℕ) (k : ℕ) → Judged c words cubes begun e k → IsRecord (c .lamps) e
-    judged-record = merged-record _ _ _ _ _ entry room begun-with
-
-    pub judged-length : (e : List ℕ) (k : ℕ) → Judged c words cubes begun e k → length e ≡ length entry
-    judged-length = merged-length _ _ _ _ _ entry room begun-with
-
-    module _ (k : ℕ) (lamps₀ lamps₁ : List ℕ) (wide : bytesFor (c .lamps) ≤ length lamps₀) (read : lamps₁ ≡ over (pack (lampsIn circuit (cubeOf (c .latches) (drop (k * len) cubes)))) lamps₀) where
-      read-of : lamps₁ ≡ over (pack (lampsAt k)) lamps₀
-      read-of = read ∙ ap (λ (v : Cube). over (pack (lampsIn circuit v)) lamps₀) (cube-at _ (j .size) cubes k)
-
-      pub lamps-record : IsRecord (c .lamps) lamps₁
-      lamps-record = rw read-of (record-over (c .lamps) (lampsAt k) lamps₀ (lamps-sized c words cubes k) wide)
-
-      pub lamps-length : length lamps₁ ≡ length lamps₀
-      lamps-length = ap length read-of ∙ length-over _ lamps₀ (omega (arith, lamps-long k))
-
-      pub judged-next : (e e′ : List ℕ) → Judged c words cubes begun e k → e′ ≡ over (pack (merged (unpack (c .lamps) e) (unpack (c .lamps) lamps₁))) e → Judged c words cubes begun e′ (k + 1)
-      judged-next e e′ m ee = merged-next _ _ _ _ _ entry room begun-with e e′ k _ m (rw read-of (unpack-over (c .lamps) (lampsAt k) lamps₀ (lamps-sized c words cubes k))) ee
-
-    pub judged-last : (e : List ℕ) (k : ℕ) → Judged c words cubes begun e k → k ≡ n → e ≡ over (pack (verdict circuit (cubeIn (c .latches) cubes) n)) entry
+    pub judged-last : {e : List ℕ} {k : ℕ} → Judged c words cubes begun e k → k ≡ n → e ≡ over (pack (verdict circuit (cubeIn (c .latches) cubes) n)) entry
     unfolding verdict
-    judged-last e k m h = merged-last _ _ _ _ _ entry room begun-with _ e k n m h ∙ ap (λ (i : ℕ). over (pack (mergeFrom (replicate (length (circuit .lamps)) low) lampsAt 0 i)) entry) (sub-zero n)
+    judged-last m h = merged-last _ _ _ _ _ entry room begun-with _ n m h ∙ ap (λ (i : ℕ). over (pack (mergeFrom (replicate (length (circuit .lamps)) low) lampsAt 0 i)) entry) (sub-zero n)

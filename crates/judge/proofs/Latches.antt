@@ -1,5 +1,5 @@
 -- The judge's second loop: the latches merged over the cubes from j on. Assumes nothing.
-use mathlib.Core.Path.{_≡_, refl, sym, ap, ap₂, _∙_}
+use mathlib.Core.Path.{_≡_, sym, ap, ap₂, _∙_}
 use mathlib.Core.List.{List, _++_}
 use Prim.Native.Nat.{ℕ, _+_, _*_, _-_, _<_, _≤_}
 use native.Mathlib.Nat.{zero-add}
@@ -16,7 +16,7 @@ use Rattle.cubes.specs.Buffer.{cubeIn}
 use Rattle.cubes.proofs.StoredCube.{cube-bytes, cube-fields, cube-record as is-record, cube-in-sized, cube-repacked, cube-at}
 use Rattle.judge.specs.JudgeInCode.{Settleable, settledFrom}
 use Rattle.stored.proofs.Reaching.{part-tail}
-use Rattle.cubes.proofs.Merging.{Merged, merged-first, merged-record, merged-length, merged-next, merged-last}
+use Rattle.cubes.proofs.Merging.{Merged, merged-first, merged-next, merged-last}
 use Rattle.three.proofs.Loops.{Stored, stored-next}
 use Rattle.judge.proofs.Lamps.{place-below}
 
@@ -39,10 +39,11 @@ module _ (latches len n j : ℕ) (cubes : List ℕ) (s : Settleable latches len 
   pub cube-record : (k : ℕ) → k < n → IsRecord latches (take (length cubes - k * len) (drop (k * len) cubes))
   cube-record k h = rw part-tail (is-record _ _ (s .cube k h))
 
-  cube-long : (k : ℕ) → length (pack (cubeIn latches cubes k)) ≡ bytesFor latches
-  cube-long k = rw (length-pack, cube-in-sized latches cubes k)
+  pub settled-next : {begun e e′ : List ℕ} {k : ℕ} → Settled latches cubes j begun e k
+      → e′ ≡ over (pack (merged (unpack latches e) (unpack latches (take (length cubes - k * len) (drop (k * len) cubes))))) e → Settled latches cubes j begun e′ (k + 1)
+  settled-next {k = k} m ee = merged-next _ _ _ _ _ m (rw part-tail (cube-fields latches _ ∙ cube-at latches (s .size) cubes k)) ee
 
-  module _ (entry : List ℕ) (room : bytesFor latches ≤ length entry) (small : (i : ℕ) → getD cubes i 0 < 256) (begun : List ℕ) (copied : begun ≡ paste entry 0 (drop (j * len) cubes) len) where
+  module _ (entry : List ℕ) (room : bytesFor latches ≤ length entry) (small : (i : ℕ) → getD cubes i 0 < 256) {begun : List ℕ} (copied : begun ≡ paste entry 0 (drop (j * len) cubes) len) where
     latches-begun : begun ≡ over (pack (cubeIn latches cubes j)) entry
     unfolding over
     latches-begun =
@@ -50,22 +51,12 @@ module _ (latches len n j : ℕ) (cubes : List ℕ) (s : Settleable latches len 
         ap (λ (m : ℕ). take m (drop (j * len) cubes)) (s .size)
         ∙ cube-repacked latches (drop (j * len) cubes) (s .cube j (s .below)) (λ i. rw getD-drop (small (j * len + i)))
         ∙ ap pack (cube-at latches (s .size) cubes j) in
-        let rest : 0 + len ≡ length (pack (cubeIn latches cubes j)) = omega (arith, cube-long j, s .size, cube-bytes latches) in
+        let rest : 0 + len ≡ length (pack (cubeIn latches cubes j)) = rw (length-pack, cube-in-sized latches cubes j) (omega (arith, s .size, cube-bytes latches)) in
         copied ∙ ap₂ (λ (x : List ℕ) (m : ℕ). x ++ drop m entry) first rest
 
     pub settled-first : Settled latches cubes j begun begun (j + 1)
-    settled-first = merged-first _ _ _ _ _ entry room latches-begun (j + 1) refl
+    settled-first = merged-first _ _ _ _ _ entry room latches-begun
 
-    pub settled-record : (e : List ℕ) (k : ℕ) → Settled latches cubes j begun e k → IsRecord latches e
-    settled-record = merged-record _ _ _ _ _ entry room latches-begun
-
-    pub settled-length : (e : List ℕ) (k : ℕ) → Settled latches cubes j begun e k → length e ≡ length entry
-    settled-length = merged-length _ _ _ _ _ entry room latches-begun
-
-    pub settled-next : (e e′ : List ℕ) (k : ℕ) → Settled latches cubes j begun e k
-        → e′ ≡ over (pack (merged (unpack latches e) (unpack latches (take (length cubes - k * len) (drop (k * len) cubes))))) e → Settled latches cubes j begun e′ (k + 1)
-    settled-next e e′ k m ee = merged-next _ _ _ _ _ entry room latches-begun e e′ k _ m (rw part-tail (cube-fields latches _ ∙ cube-at latches (s .size) cubes k)) ee
-
-    pub settled-last : (e : List ℕ) (k : ℕ) → Settled latches cubes j begun e k → k ≡ n → e ≡ over (pack (settledFrom latches cubes n j)) entry
+    pub settled-last : {e : List ℕ} {k : ℕ} → Settled latches cubes j begun e k → k ≡ n → e ≡ over (pack (settledFrom latches cubes n j)) entry
     unfolding settledFrom
-    settled-last e k m h = merged-last _ _ _ _ _ entry room latches-begun (replicate latches unknown) e k n m h
+    settled-last m h = merged-last _ _ _ _ _ entry room latches-begun (replicate latches unknown) n m h

@@ -1,10 +1,11 @@
 -- `judge::judge_lamps` meets its contract: the lamps of each cube are merged into those of the cubes before it. Assumes nothing.
-use mathlib.Core.Path.{_≡_, refl, sym, _∙_}
+use mathlib.Core.Path.{_≡_, refl, sym}
 use Prim.Native.Nat.{_-_, _≤_}
 use lib.ListN.{length}
 use Rattle.pass.proofs.Values.{fresh-begins}
 use Rattle.stored.specs.CubesInCode.{SwitchesX}
-use Rattle.judge.proofs.Lamps.{Judged, first-cube, few-lamps, lamps-fit, lamp-place, judged-first, judged-record, judged-length, lamps-record, lamps-length, judged-next, judged-last}
+use Rattle.cubes.proofs.Merging.{merged-record, merged-length}
+use Rattle.judge.proofs.Lamps.{Judged, first-cube, few-lamps, lamp-place, judged-first, lamps-record, lamps-length, judged-next, judged-last}
 use native.Mathlib.Omega.{arith}
 use Rattle.judge.proofs.judge_lamps.Statement.{statement}
 use Rattle.judge.proofs.judge_lamps.Tie as tie
@@ -15,9 +16,6 @@ Inv-loop counts table cubes len n verdict₀ values₀ lamps₀ k₀ verdict val
 abbrev μ-loop : tie.MeasureT-loop
 μ-loop counts table cubes len n verdict₀ values₀ lamps₀ k₀ verdict values lamps k = n - k
 
-fresh-values-requires : tie.Need-fresh-values-requires Inv-loop μ-loop
-fresh-values-requires c κs = tt
-
 lamps-at-requires : tie.Need-lamps-at-requires Inv-loop μ-loop
 lamps-at-requires c κs =
     let start = c .before .before .before .before .before .before in
@@ -26,17 +24,14 @@ lamps-at-requires c κs =
 
 loop-holds : tie.Need-loop-holds Inv-loop μ-loop
 loop-holds c =
-    let start = c .before .before .before .before .before .before .before .before .before in
-    let pre = start .pre in
-    let entry = start .args .verdict .now in
+    let pre = c .before .before .before .before .before .before .before .before .before .pre in
     let lit = c .before .before .lamps-at .ensures in
-    (lit .0, judged-first _ _ _ _ _ (pre .0) entry (pre .1) _ (lit .1), refl, pre .0 .some)
+    (lit .0, judged-first _ _ _ _ _ (pre .0) _ (pre .1) (lit .1), refl, pre .0 .some)
 
 mul-lamps-at : tie.Need-mul-lamps-at Inv-loop μ-loop
 mul-lamps-at c =
     let start = c .before .before .before .before .before .before .before .before .before .before .before in
-    let pre = start .pre in
-    omega (arith, lamp-place _ _ _ _ _ (pre .0) _ (c .loop-test .taken), start .good)
+    omega (arith, lamp-place _ _ _ _ _ (start .pre .0) _ (c .loop-test .taken), start .good)
 
 slice-aggregate-lamps-at : tie.Need-slice-aggregate-lamps-at Inv-loop μ-loop
 slice-aggregate-lamps-at c = sym (c .before .before .before .loop .inv .2)
@@ -44,8 +39,7 @@ slice-aggregate-lamps-at c = sym (c .before .before .before .loop .inv .2)
 lamps-at-requires-2 : tie.Need-lamps-at-requires-2 Inv-loop μ-loop
 lamps-at-requires-2 c κs =
     let at = c .before .before .before in
-    let start = at .before .before .before .before .before .before .before .before .before .before in
-    let pre = start .pre in
+    let pre = at .before .before .before .before .before .before .before .before .before .before .pre in
     let inv = at .loop .inv in
     let h = c .before .before .loop-test .taken in
     (pre .0 .legal, lamp-place _ _ _ _ _ (pre .0) _ h, pre .0 .cube _ h, inv .0, omega (arith, few-lamps _ _ _ _ _ (pre .0), inv .2))
@@ -53,54 +47,33 @@ lamps-at-requires-2 c κs =
 slice-aggregate-agree : tie.Need-slice-aggregate-agree Inv-loop μ-loop
 slice-aggregate-agree c =
     let at = c .before .before .before .before .before .before .before in
-    let start = at .before .before .before .before .before .before .before .before .before .before in
-    let pre = start .pre in
-    let entry = start .args .verdict .now in
-    let inv = at .loop .inv in
-    let first = at .before .before .before .lamps-at .ensures .1 in
-    sym (lamps-length _ _ _ _ _ (pre .0) entry (pre .1) _ first _ _ _ (lamps-fit _ _ _ _ _ (pre .0) (at .loop .lamps) (inv .2)) (c .before .before .before .lamps-at2 .ensures .1) ∙ inv .2)
+    let pre = at .before .before .before .before .before .before .before .before .before .before .pre in
+    sym (lamps-length _ _ _ _ _ (pre .0) _ (at .loop .lamps) (at .loop .inv .2) (c .before .before .before .lamps-at2 .ensures .1))
 
 agree-requires : tie.Need-agree-requires Inv-loop μ-loop
 agree-requires c κs =
     let at = c .before .before .before .before .before .before .before in
-    let start = at .before .before .before .before .before .before .before .before .before .before in
-    let pre = start .pre in
-    let entry = start .args .verdict .now in
+    let pre = at .before .before .before .before .before .before .before .before .before .before .pre in
     let inv = at .loop .inv in
-    let first = at .before .before .before .lamps-at .ensures .1 in
-    (judged-record _ _ _ _ _ (pre .0) entry (pre .1) _ first _ _ (inv .1), lamps-record _ _ _ _ _ (pre .0) entry (pre .1) _ first _ _ _ (lamps-fit _ _ _ _ _ (pre .0) (at .loop .lamps) (inv .2)) (c .before .before .before .lamps-at2 .ensures .1))
+    (merged-record _ _ _ _ _ (inv .1), lamps-record _ _ _ _ _ (pre .0) _ (at .loop .lamps) (inv .2) (c .before .before .before .lamps-at2 .ensures .1))
 
 loop-again : tie.Need-loop-again Inv-loop μ-loop
 loop-again c =
     let at = c .before .before .before .before .before .before .before .before .before .before in
-    let start = at .before .before .before .before .before .before .before .before .before .before in
-    let pre = start .pre in
-    let entry = start .args .verdict .now in
+    let pre = at .before .before .before .before .before .before .before .before .before .before .pre in
     let inv = at .loop .inv in
-    let first = at .before .before .before .lamps-at .ensures .1 in
     let read = c .before .before .before .before .before .before .lamps-at2 .ensures in
-    let wide = lamps-fit _ _ _ _ _ (pre .0) (at .loop .lamps) (inv .2) in
-    (read .0, judged-next _ _ _ _ _ (pre .0) entry (pre .1) _ first _ _ _ wide (read .1) _ _ (inv .1) (c .before .before .agree .ensures), lamps-length _ _ _ _ _ (pre .0) entry (pre .1) _ first _ _ _ wide (read .1) ∙ inv .2, omega (arith, c .before .before .before .before .before .before .before .before .before .loop-test .taken))
+    let lamps = at .loop .lamps in
+    (read .0, judged-next _ _ _ _ _ (pre .0) _ lamps (inv .2) (read .1) (inv .1) (c .before .before .agree .ensures), lamps-length _ _ _ _ _ (pre .0) _ lamps (inv .2) (read .1), omega (arith, c .before .before .before .before .before .before .before .before .before .loop-test .taken))
 
 same-length : tie.Need-same-length Inv-loop μ-loop
-same-length c =
-    let at = c .before in
-    let start = at .before .before .before .before .before .before .before .before .before .before in
-    let pre = start .pre in
-    let entry = start .args .verdict .now in
-    let inv = at .loop .inv in
-    let first = at .before .before .before .lamps-at .ensures .1 in
-    judged-length _ _ _ _ _ (pre .0) entry (pre .1) _ first _ _ (inv .1)
+same-length c = omega (arith, merged-length _ _ _ _ _ (c .before .loop .inv .1))
 
 returns : tie.Need-returns Inv-loop μ-loop
 returns c =
     let at = c .before in
-    let start = at .before .before .before .before .before .before .before .before .before .before in
-    let pre = start .pre in
-    let entry = start .args .verdict .now in
-    let inv = at .loop .inv in
-    let first = at .before .before .before .lamps-at .ensures .1 in
-    judged-last _ _ _ _ _ (pre .0) entry (pre .1) _ first _ _ (inv .1) (omega arith)
+    let pre = at .before .before .before .before .before .before .before .before .before .before .pre in
+    judged-last _ _ _ _ _ (pre .0) _ (pre .1) (at .before .before .before .lamps-at .ensures .1) (at .loop .inv .1) (omega arith)
 
 pub judge-lamps-spec : {M : Type 1} → statement M
 judge-lamps-spec =
@@ -108,7 +81,7 @@ judge-lamps-spec =
     (tie.spec
     Inv-loop
     μ-loop
-    fresh-values-requires
+    (λ c κs. tt)
     lamps-at-requires
     loop-holds
     mul-lamps-at

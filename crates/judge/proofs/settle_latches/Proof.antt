@@ -1,7 +1,8 @@
 -- `judge::settle_latches` meets its contract: the cubes from j on are merged one after the other. Assumes nothing.
 use Prim.Native.Nat.{_-_, _≤_}
 use Rattle.cubes.proofs.StoredCube.{cube-bytes}
-use Rattle.judge.proofs.Latches.{Settled, latch-place, cube-record, settled-first, settled-record, settled-length, settled-next, settled-last}
+use Rattle.cubes.proofs.Merging.{merged-record, merged-length}
+use Rattle.judge.proofs.Latches.{Settled, latch-place, cube-record, settled-first, settled-next, settled-last}
 use native.Mathlib.Omega.{arith}
 use Rattle.judge.proofs.settle_latches.Statement.{statement}
 use Rattle.judge.proofs.settle_latches.Tie as tie
@@ -26,10 +27,9 @@ copy-cube-requires c κs =
 
 loop-holds : tie.Need-loop-holds Inv-loop μ-loop
 loop-holds c =
-    let start = c .before .before .before .before .before .before in
-    let pre = start .pre in
-    let entry = start .args .settled .now in
-    (settled-first _ _ _ _ _ (pre .0) entry (pre .1) (λ i. c .before .before .before .before .before .shared-slice-known .given i .fits) _ (c .before .before .copy-cube .ensures), omega arith)
+    let known = c .before .before .before .before .before in
+    let pre = known .before .pre in
+    (settled-first _ _ _ _ _ (pre .0) _ (pre .1) (λ i. known .shared-slice-known .given i .fits) (c .before .before .copy-cube .ensures), omega arith)
 
 mul-agree : tie.Need-mul-agree Inv-loop μ-loop
 mul-agree c =
@@ -49,38 +49,24 @@ part-agree-end c = omega (arith, latch-place _ _ _ _ _ (c .before .before .befor
 agree-requires : tie.Need-agree-requires Inv-loop μ-loop
 agree-requires c κs =
     let at = c .before .before .before in
-    let start = at .before .before .before .before .before .before .before in
-    let pre = start .pre in
-    let entry = start .args .settled .now in
-    let inv = at .loop .inv in
-    (settled-record _ _ _ _ _ (pre .0) entry (pre .1) (λ i. at .before .before .before .before .before .before .shared-slice-known .given i .fits) _ (at .before .before .before .copy-cube .ensures) _ _ (inv .0), cube-record _ _ _ _ _ (pre .0) _ (c .before .before .loop-test .taken))
+    let pre = at .before .before .before .before .before .before .before .pre in
+    (merged-record _ _ _ _ _ (at .loop .inv .0), cube-record _ _ _ _ _ (pre .0) _ (c .before .before .loop-test .taken))
 
 loop-again : tie.Need-loop-again Inv-loop μ-loop
 loop-again c =
     let at = c .before .before .before .before .before .before in
-    let start = at .before .before .before .before .before .before .before in
-    let pre = start .pre in
-    let entry = start .args .settled .now in
-    let inv = at .loop .inv in
-    (settled-next _ _ _ _ _ (pre .0) entry (pre .1) (λ i. at .before .before .before .before .before .before .shared-slice-known .given i .fits) _ (at .before .before .before .copy-cube .ensures) _ _ _ (inv .0) (c .before .before .agree .ensures), omega (arith, c .before .before .before .before .before .loop-test .taken))
+    let pre = at .before .before .before .before .before .before .before .pre in
+    (settled-next _ _ _ _ _ (pre .0) (at .loop .inv .0) (c .before .before .agree .ensures), omega (arith, c .before .before .before .before .before .loop-test .taken))
 
 same-length : tie.Need-same-length Inv-loop μ-loop
-same-length c =
-    let at = c .before in
-    let start = at .before .before .before .before .before .before .before in
-    let pre = start .pre in
-    let entry = start .args .settled .now in
-    let inv = at .loop .inv in
-    settled-length _ _ _ _ _ (pre .0) entry (pre .1) (λ i. at .before .before .before .before .before .before .shared-slice-known .given i .fits) _ (at .before .before .before .copy-cube .ensures) _ _ (inv .0)
+same-length c = omega (arith, merged-length _ _ _ _ _ (c .before .loop .inv .0))
 
 returns : tie.Need-returns Inv-loop μ-loop
 returns c =
     let at = c .before in
-    let start = at .before .before .before .before .before .before .before in
-    let pre = start .pre in
-    let entry = start .args .settled .now in
-    let inv = at .loop .inv in
-    settled-last _ _ _ _ _ (pre .0) entry (pre .1) (λ i. at .before .before .before .before .before .before .shared-slice-known .given i .fits) _ (at .before .before .before .copy-cube .ensures) _ _ (inv .0) (omega arith)
+    let known = at .before .before .before .before .before .before in
+    let pre = known .before .pre in
+    settled-last _ _ _ _ _ (pre .0) _ (pre .1) (λ i. known .shared-slice-known .given i .fits) (at .before .before .before .copy-cube .ensures) (at .loop .inv .0) (omega arith)
 
 pub settle-latches-spec : {M : Type 1} → statement M
 settle-latches-spec =
