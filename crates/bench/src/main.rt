@@ -14,6 +14,9 @@ const E: [u8; 20] = *b"aag 1 0 1 1 0\n2 1\n2\n";
 
 const C: [u8; 45] = *b"aag 5 0 2 1 3\n2 3\n4 11\n10\n6 4 3\n8 5 2\n10 9 7\n";
 
+// A first latch without a start value.
+const U: [u8; 26] = *b"aag 2 0 2 1 0\n2 0 2\n4 2\n4\n";
+
 // What no call may touch keeps this byte.
 const UNTOUCHED: u8 = 0xFF;
 
@@ -126,7 +129,8 @@ fn main() {
     ample(b"C", &C, 2);
     ample(b"C", &C, 3);
     ample(b"no counts", b"aag 0 0 0 0 0\n", 0);
-    ample(b"reset 2", b"aag 1 0 1 0 0\n2 2 2\n", 0);
+    ample(b"no start value", b"aag 1 0 1 0 0\n2 2 2\n", 0);
+    ample(b"U", &U, 0);
     ample(b"operand 4", b"aag 2 1 0 0 1\n2\n4 4 2\n", 0);
     ample(b"operand 6", b"aag 2 1 0 0 1\n2\n4 6 2\n", 0);
 }

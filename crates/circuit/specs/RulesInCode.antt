@@ -13,7 +13,7 @@ use Rattle.three.specs.Lists.{tabulate}
 
 -- the same rules where a line's words stand at word `at`: 6 and 8 for a latch, 6 for a lamp, and for a gate 7, from which 6 follows
 unfoldable pub latchKept : ℕ → List ℕ → ℕ → Bool
-latchKept most words at = leb (getD words at 0) most && leb (getD words (at + 1) 0) 1
+latchKept most words at = leb (getD words at 0) most && leb (getD words (at + 1) 0) 2
 
 unfoldable pub literalKept : ℕ → List ℕ → ℕ → Bool
 literalKept most words at = leb (getD words at 0) most
@@ -33,7 +33,7 @@ pub record Legal (c : Counts) (words : List ℕ) : Type 0 where
   pub bounded : Bounded c
   pub long : tableLength c ≤ length words
   pub next : (i : ℕ) → i < c .latches → getD words (2 * i) 0 ≤ top c
-  pub reset : (i : ℕ) → i < c .latches → getD words (2 * i + 1) 0 ≤ 1
+  pub reset : (i : ℕ) → i < c .latches → getD words (2 * i + 1) 0 ≤ 2
   pub literal : (i : ℕ) → i < literals c → getD words (literalsAt c + i) 0 ≤ top c
   pub left : (i : ℕ) → i < c .gates → getD words (gatesAt c + 2 * i) 0 < 2 * (1 + c .inputs + c .latches + i)
   pub right : (i : ℕ) → i < c .gates → getD words (gatesAt c + 2 * i + 1) 0 < 2 * (1 + c .inputs + c .latches + i)

@@ -58,7 +58,7 @@ width kind = elim kind [ input own ↦ 0 | latch own ↦ 2 | literal ↦ 1 | gat
 -- rules 6, 7 and 8 for a line's words, the first of ws; `most` is the largest literal
 unfoldable pub rowTests : ℕ → Kind → List ℕ → List Test
 rowTests most (input own) ws = []
-rowTests most (latch own) ws = leb (getD ws 0 0) most or 6 ∷ leb (getD ws 1 0) 1 or 8 ∷ []
+rowTests most (latch own) ws = leb (getD ws 0 0) most or 6 ∷ leb (getD ws 1 0) 2 or 8 ∷ []
 rowTests most literal ws = leb (getD ws 0 0) most or 6 ∷ []
 rowTests most (gate own) ws =
     leb (getD ws 0 0) most or 6 ∷ leb (getD ws 1 0) most or 6 ∷ ltb (getD ws 0 0) own or 7 ∷ ltb (getD ws 1 0) own or 7 ∷ []

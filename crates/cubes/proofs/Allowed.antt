@@ -1,4 +1,4 @@
--- The resets allow exactly the states inside cube 0, which today is one; from an accepted table every switch sequence has an execution. Assumes nothing.
+-- The resets allow exactly the states inside cube 0, one state where each reset is 0 or 1; from an accepted table every switch sequence has an execution. Assumes nothing.
 use mathlib.Core.Path.{_≡_, refl, ap₂}
 use mathlib.Core.Bool.{Bool, true, false}
 use mathlib.Core.List.{List, [], _∷_, map}
@@ -21,17 +21,21 @@ allows-holds : {r : ℕ} {b : Bool} → Allows r b → Holds (startField r) b
 unfolding startField
 allows-holds Allows.off = Holds.off
 allows-holds Allows.on = Holds.on
+allows-holds Allows.free = Holds.any
 
-holds-allows : (r : ℕ) {b : Bool} → r ≤ 1 → Holds (startField r) b → Allows r b
+holds-allows : (r : ℕ) {b : Bool} → r ≤ 2 → Holds (startField r) b → Allows r b
 unfolding startField
 holds-allows zero small Holds.off = Allows.off
 holds-allows (suc zero) small Holds.on = Allows.on
-holds-allows (suc (suc r)) small h = absurd (omega arith)
+holds-allows (suc (suc zero)) small h = Allows.free
+holds-allows (suc (suc (suc r))) small h = absurd (omega arith)
 
-allows-one : {r : ℕ} {a b : Bool} → Allows r a → Allows r b → a ≡ b
-allows-one Allows.off Allows.off = refl
-allows-one Allows.on Allows.on = refl
+allows-one : {r : ℕ} {a b : Bool} → r ≤ 1 → Allows r a → Allows r b → a ≡ b
+allows-one known Allows.off Allows.off = refl
+allows-one known Allows.on Allows.on = refl
+allows-one known Allows.free Allows.free = absurd (omega arith)
 
+-- a bit that the reset allows
 resetBit : ℕ → Bool
 resetBit zero = false
 resetBit (suc n) = true
@@ -39,34 +43,37 @@ resetBit (suc n) = true
 bit-holds : (r : ℕ) → Holds (startField r) (resetBit r)
 unfolding startField resetBit
 bit-holds zero = Holds.off
-bit-holds (suc n) = Holds.on
+bit-holds (suc zero) = Holds.on
+bit-holds (suc (suc n)) = Holds.any
 
 -- ---- all of them
 
-pub allowed-one : {rs : List ℕ} {s s′ : List Bool} → Each Allows rs s → Each Allows rs s′ → s ≡ s′
-allowed-one empty empty = refl
-allowed-one (also a as′) (also b bs) = ap₂ (λ (x : Bool) (xs : List Bool). x ∷ xs) (allows-one a b) (allowed-one as′ bs)
+-- where no reset is above 1
+pub allowed-one : (rs : List ℕ) → ((i : ℕ) → getD rs i 0 ≤ 1) → {s s′ : List Bool} → Each Allows rs s → Each Allows rs s′ → s ≡ s′
+allowed-one [] known empty empty = refl
+allowed-one (r ∷ rs) known (also a as′) (also b bs) =
+    ap₂ (λ (x : Bool) (xs : List Bool). x ∷ xs) (allows-one (known 0) a b) (allowed-one rs (λ i. known (suc i)) as′ bs)
 
 pub allowed-starts : {rs : List ℕ} {s : List Bool} → Each Allows rs s → map startField rs ∋ s
 allowed-starts empty = empty
 allowed-starts (also a rest) = also (allows-holds a) (allowed-starts rest)
 
--- where no reset is above 1
-pub starts-allowed : (rs : List ℕ) → ((i : ℕ) → getD rs i 0 ≤ 1) → {s : List Bool} → map startField rs ∋ s → Each Allows rs s
+-- where no reset is above 2
+pub starts-allowed : (rs : List ℕ) → ((i : ℕ) → getD rs i 0 ≤ 2) → {s : List Bool} → map startField rs ∋ s → Each Allows rs s
 starts-allowed [] small empty = empty
 starts-allowed (r ∷ rs) small (also h hs) = also (holds-allows r (small 0) h) (starts-allowed rs (λ i. small (suc i)) hs)
 
 -- ---- from an accepted table
 
 module _ (c : Counts) (words : List ℕ) (legal : Legal c words) where
-  resets-small : (i : ℕ) → getD (resets (circuitOf c words)) i 0 ≤ 1
+  resets-small : (i : ℕ) → getD (resets (circuitOf c words)) i 0 ≤ 2
   unfolding resets circuitOf
   resets-small i = rw map-tabulate (go (decLt i (c .latches)))
     where
       reset : ℕ → ℕ
       reset k = getD words (2 * k + 1) 0
 
-      go : Dec (i < c .latches) → getD (tabulate (c .latches) reset) i 0 ≤ 1
+      go : Dec (i < c .latches) → getD (tabulate (c .latches) reset) i 0 ≤ 2
       go (yes h) = rw (getD-tabulate (c .latches) reset i 0 h) (legal .reset i h)
       go (no h) = rw (getD-beyond (c .latches) reset i 0 (omega arith)) (omega arith)
 

@@ -7,10 +7,11 @@ use Rattle.three.specs.Value.{boolean}
 use Rattle.circuit.specs.Circuit.{Circuit, next, lamps}
 use Rattle.cubes.specs.Run.{resets}
 
--- a reset allows its own bit
+-- a reset of 0 or 1 allows that bit alone, and no start value (2) allows either
 pub data Allows : ℕ → Bool → Type 0 where
   off : Allows 0 false
   on : Allows 1 true
+  free : {b : Bool} → Allows 2 b
 
 -- `switches t i` is switch i at tick t
 pub record Execution (c : Circuit) : Type 0 where

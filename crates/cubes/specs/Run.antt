@@ -33,9 +33,9 @@ nextCube c a = next ternary c (switchesUnknown c) a
 unfoldable pub lampsIn : Circuit → Cube → Cube
 lampsIn c a = lamps ternary c (switchesUnknown c) a
 
--- a reset as a field
+-- a reset as a field: X where there is no start value
 unfoldable pub startField : ℕ → Three
-startField reset = elim reset [ zero ↦ low | suc n ↦ high ]
+startField reset = elim reset [ zero ↦ low | suc r ↦ elim r [ zero ↦ high | suc n ↦ unknown ] ]
 
 unfoldable pub resets : Circuit → List ℕ
 resets c = map (λ (l : Latch). l .reset) (c .latches)

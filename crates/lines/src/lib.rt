@@ -175,9 +175,16 @@ pub fn entry(found: ReadLine, i: usize) -> usize
     numbers[i]
 }
 
-// The reset word of a latch's line.
+// The reset word of a latch's line: 2 where it repeats the own literal, 3 where the number is no reset.
 pub fn reset_word(found: ReadLine) -> usize
     ensures { λ r. ⌜ r ≡ resetWord (getD (numbersOf found) 0 0) (getD (numbersOf found) 2 0) ⌝ }
 {
-    entry(found, 2)
+    let reset = entry(found, 2);
+    if reset <= 1 {
+        return reset;
+    }
+    if reset == entry(found, 0) {
+        return 2;
+    }
+    3
 }

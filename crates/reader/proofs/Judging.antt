@@ -78,14 +78,14 @@ module _ (most own : ℕ) (l : ReadLine) (s : Shape l) where
     latch-own h = line-own most (latch own) l s latch-fits (ne-eqb _ _ h)
 
     module _ (o : nth l 0 ≡ own) {r : ℕ} (e : r ≡ resetWord (nth l 0) (nth l 2)) where
-      latch-words : {n : ℕ} → n ≡ refusal (leb (nth l 1) most or 6 ∷ leb r 1 or 8 ∷ []) → n ≡ refusal (lineTests most (latch own) (numbersOf l))
+      latch-words : {n : ℕ} → n ≡ refusal (leb (nth l 1) most or 6 ∷ leb r 2 or 8 ∷ []) → n ≡ refusal (lineTests most (latch own) (numbersOf l))
       unfolding owns words rowTests
       latch-words h = line-words most (latch own) l s latch-fits (eq-eqb _ _ o) (rw e at h)
 
-      pub latch-reset : nth l 1 ≤ most → 1 < r → 8 ≡ refusal (lineTests most (latch own) (numbersOf l))
+      pub latch-reset : nth l 1 ≤ most → 2 < r → 8 ≡ refusal (lineTests most (latch own) (numbersOf l))
       latch-reset g h = latch-words (past _ _ (le-leb _ _ g) (stops _ _ (lt-leb _ _ h)))
 
-      pub latch-passes : nth l 1 ≤ most → r ≤ 1 → 0 ≡ refusal (lineTests most (latch own) (numbersOf l))
+      pub latch-passes : nth l 1 ≤ most → r ≤ 2 → 0 ≡ refusal (lineTests most (latch own) (numbersOf l))
       latch-passes g h = latch-words (past _ _ (le-leb _ _ g) (past _ _ (le-leb _ _ h) none))
 
     pub latch-over : nth l 0 ≡ own → most < nth l 1 → 6 ≡ refusal (lineTests most (latch own) (numbersOf l))

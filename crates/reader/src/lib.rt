@@ -109,7 +109,7 @@ fn latch_refusal(own: usize, most: usize, found: ReadLine) -> u32
     if lines::entry(found, 1) > most {
         return 6;
     }
-    if lines::reset_word(found) > 1 {
+    if lines::reset_word(found) > 2 {
         return 8;
     }
     0

@@ -1,5 +1,5 @@
 -- Cube 0: its fields are the resets that stand in the table's words. Assumes nothing.
-use mathlib.Core.Path.{_≡_, sym, ap, _∙_}
+use mathlib.Core.Path.{_≡_, refl, sym, ap, _∙_}
 use mathlib.Core.List.{List, map}
 use Prim.Native.Nat.{ℕ, zero, suc, _+_, _*_, _<_, _≤_}
 use lib.ListN.{length, getD}
@@ -36,12 +36,17 @@ module _ (words : List ℕ) (count : ℕ) where
     unfolding startField code
     start-low e = ap (λ (n : ℕ). code (startField n)) (sym e) ∙ ap code start-within
 
-    pub start-high : (getD words (2 * i + 1) 0 ≡ 0 → ⊥) → 2 ≡ code (getD (startFields words count) i unknown)
-    start-high e = go (getD words (2 * i + 1) 0) e ∙ ap code start-within
+    pub start-high : getD words (2 * i + 1) 0 ≡ 1 → 2 ≡ code (getD (startFields words count) i unknown)
+    unfolding startField code
+    start-high e = ap (λ (n : ℕ). code (startField n)) (sym e) ∙ ap code start-within
+
+    pub start-free : (getD words (2 * i + 1) 0 ≡ 0 → ⊥) → (getD words (2 * i + 1) 0 ≡ 1 → ⊥) → 0 ≡ code (getD (startFields words count) i unknown)
+    start-free e f = go (getD words (2 * i + 1) 0) e f ∙ ap code start-within
       where
-        go : (n : ℕ) → (n ≡ 0 → ⊥) → 2 ≡ code (startField n)
-        go zero z = absurd (z mathlib.Core.Path.refl)
-        go (suc n) z = unfold startField code in mathlib.Core.Path.refl
+        go : (n : ℕ) → (n ≡ 0 → ⊥) → (n ≡ 1 → ⊥) → 0 ≡ code (startField n)
+        go zero y z = absurd (y refl)
+        go (suc zero) y z = absurd (z refl)
+        go (suc (suc n)) y z = unfold startField code in refl
 
   -- cube 0, stored as a record of its fields
   pub start-stored : (d : List ℕ) → over (pack (startFields words count)) d ≡ over (packCube (startFields words count)) d

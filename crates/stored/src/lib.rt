@@ -34,10 +34,14 @@ fn start_field(table: &[u16], count: usize, i: usize) -> u8
     if i >= count {
         return 0;
     }
-    if table[2 * i + 1] == 0 {
+    let reset = table[2 * i + 1];
+    if reset == 0 {
         return 1;
     }
-    2
+    if reset == 1 {
+        return 2;
+    }
+    0
 }
 
 fn start_byte(table: &[u16], count: usize, k: usize) -> u8

@@ -19,7 +19,7 @@ fn latch_kept(table: &[u16], at: usize, most: u16) -> bool
     if table[at] > most {
         return false;
     }
-    table[at + 1] <= 1
+    table[at + 1] <= 2
 }
 
 fn latches_kept(table: &[u16], count: usize, most: u16) -> bool

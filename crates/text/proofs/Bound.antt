@@ -1,4 +1,4 @@
--- A written text never exceeds 57,122 bytes (specification, 4.7), and one has as many: each line has its longest numbers,
+-- A written text never exceeds 58,415 bytes (specification, 4.7), and one has as many: each line has its longest numbers,
 -- and more or larger own literals make a body no shorter. Assumes nothing.
 use mathlib.Core.Path.{_≡_, refl}
 use mathlib.Core.List.{List, [], _∷_, _++_}
@@ -20,7 +20,7 @@ use Rattle.text.proofs.Tables.{Taken, taken}
 -- the most bytes that a line takes
 room : Kind → ℕ
 room (input own) = length (decimal own) + 1
-room (latch own) = length (decimal own) + 8
+room (latch own) = 2 * length (decimal own) + 7
 room literal = 5
 room (gate own) = 3 * length (decimal own) + 3
 
@@ -31,15 +31,20 @@ rooms (k ∷ ks) = room k + rooms ks
 
 -- ---- lines that keep the rules stay within their room
 
-latch-room : (own next reset : ℕ) → next ≤ 8191 → reset ≤ 1 → length (lineText (own ∷ next ∷ shown own reset)) ≤ length (decimal own) + 8
+one-digit : (n : ℕ) → 1 ≤ length (decimal n)
+unfolding decimal digits
+one-digit n = length-monotone 0 n (omega arith)
+
+latch-room : (own next reset : ℕ) → next ≤ 8191 → length (lineText (own ∷ next ∷ shown own reset)) ≤ 2 * length (decimal own) + 7
 unfolding endedLine shown
-latch-room own next zero p q = simp length-append (omega (arith, length-below 3 next (omega arith)))
-latch-room own next (suc r) p q = simp length-append (omega (arith, length-below 3 next (omega arith), length-below 0 (suc r) (omega arith)))
+latch-room own next zero p = simp length-append (omega (arith, length-below 3 next (omega arith), one-digit own))
+latch-room own next (suc zero) p = simp length-append (omega (arith, length-below 3 next (omega arith), length-below 0 1 (omega arith), one-digit own))
+latch-room own next (suc (suc n)) p = simp length-append (omega (arith, length-below 3 next (omega arith)))
 
 line-room : (most : ℕ) (k : Kind) (ws : List ℕ) → most ≤ 8191 → Passed (rowTests most k ws) → length (lineText (numbers k ws)) ≤ room k
 unfolding endedLine numbers room rowTests
 line-room most (input own) ws m p = simp length-append (omega arith)
-line-room most (latch own) ws m p = latch-room own (getD ws 0 0) (getD ws 1 0) (omega (arith, leb-true)) (omega (arith, leb-true))
+line-room most (latch own) ws m p = latch-room own (getD ws 0 0) (getD ws 1 0) (omega (arith, leb-true))
 line-room most literal ws m p = simp length-append (omega (arith, length-below 3 (getD ws 0 0) (omega (arith, leb-true))))
 line-room most (gate own) ws m p =
     simp length-append (omega (arith, length-monotone (getD ws 0 0) own (omega (arith, ltb-true)), length-monotone (getD ws 1 0) own (omega (arith, ltb-true))))
@@ -57,7 +62,7 @@ body-room most (k ∷ ks) ws m p =
 unfoldable pub ceiling : Counts
 ceiling = record { inputs = 256; latches = 512; lamps = 64; gates = 3327 }
 
-rooms-ceiling : rooms (kinds ceiling) ≡ 57097
+rooms-ceiling : rooms (kinds ceiling) ≡ 58390
 unfolding rooms room kinds ceiling several decimal digits
 rooms-ceiling = refl
 
@@ -77,7 +82,7 @@ rooms-kinds c b =
     (rooms-several (λ own. literal) (λ x y h. omega arith) _ _ (literals c) 64 _ _ (omega arith) (b .lamps)
     (rooms-several gate (λ x y h. omega (arith, length-monotone x y h)) _ _ (c .gates) 3327 _ _ (omega arith) (b .gates) (omega arith))))
 
-pub text-bound : (c : Counts) (table : List ℕ) → 0 ≡ refusal (circuitTests c table) → length (writeText c table) ≤ 57122
+pub text-bound : (c : Counts) (table : List ℕ) → 0 ≡ refusal (circuitTests c table) → length (writeText c table) ≤ 58415
 unfolding writeText headNumbers endedLine
 text-bound c table e =
     let k : Taken c table = taken c table e in
@@ -99,7 +104,7 @@ text-bound c table e =
 -- the longest words that a line can have
 longest : Kind → List ℕ
 longest (input own) = []
-longest (latch own) = 8191 ∷ 1 ∷ []
+longest (latch own) = 8191 ∷ 2 ∷ []
 longest literal = 8191 ∷ []
 longest (gate own) = (own - 1) ∷ (own - 1) ∷ []
 
@@ -110,6 +115,6 @@ longestWords (k ∷ ks) = longest k ++ longestWords ks
 pub longestTable : List ℕ
 longestTable = longestWords (kinds ceiling)
 
-pub bound-reached : (0 ≡ refusal (circuitTests ceiling longestTable)) × (length (writeText ceiling longestTable) ≡ 57122)
+pub bound-reached : (0 ≡ refusal (circuitTests ceiling longestTable)) × (length (writeText ceiling longestTable) ≡ 58415)
 unfolding refusal circuitTests ceilingTests wordTests allHold tableTests rowTests width ceiling kinds several longest longestWords longestTable writeText headNumbers writeBody numbers shown endedLine decimal digits
 bound-reached = (refl, refl)

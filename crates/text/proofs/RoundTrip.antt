@@ -3,45 +3,50 @@ use mathlib.Core.Path.{_≡_, refl, ap}
 use mathlib.Core.List.{List, [], _∷_, _++_}
 use Prim.Native.Nat.{ℕ, _≤_}
 use native.Mathlib.Omega.{arith}
+use borrow.Author.Tests.{leb-true}
 use lib.ListN.{length, take, drop, length-drop, length-append}
 use lib.Seq.{take-add, take-at, drop-at, length-take-le, take-append-seam}
 use Rattle.three.specs.Lists.{over}
 use Rattle.circuit.specs.declared.Counts.{Counts}
 use Rattle.circuit.specs.Refusal.{Test, refusal, leftBy as afterwards}
 use Rattle.circuit.specs.Table.{top, tableLength, Kind, input, latch, literal, gate, kinds, width, rowTests, tableTests, circuitTests}
-use Rattle.circuit.specs.RulesInCode.{Bounded}
+use Rattle.circuit.proofs.Refusals.{passed-append}
+use Rattle.circuit.specs.RulesInCode.{Bounded, Passed}
 use Rattle.text.specs.Outcome.{accepted}
 use Rattle.text.specs.Text.{numbers, writeBody, writeText, Content, readText}
 use Rattle.text.specs.Calls.{Reading, Writing}
-use Rattle.text.proofs.Tables.{size, size-kinds, Taken, taken, taken-refusal}
+use Rattle.text.proofs.Tables.{size, size-kinds, Due, Owned, owned-kinds, Taken, taken, taken-refusal}
 use Rattle.text.proofs.Grammar.{Says, stop, line, done, Describes, described, describes}
 use Rattle.text.proofs.Spelling.{Spelled, shown-spelled, inputLine, lampLine, gateLine}
 use Rattle.text.proofs.Bound.{text-bound}
 use Rattle.text.proofs.Answers.{read-fits, reading-accepted, write-legal}
 use Rattle.text.specs.Line.{newline}
 
--- A line's words, in front of others, spell what is written and keep the rules that they kept
+-- A line's words, in front of others, spell what is written where they keep the rules, and keep the rules that they kept
 record Row (k : Kind) (ws rest : List ℕ) : Type 0 where
-  spelled : Spelled rest k (take (width k) ws ++ rest) (numbers k ws)
+  spelled : (most : ℕ) → Due most k → Passed (rowTests most k ws) → Spelled rest k (take (width k) ws ++ rest) (numbers k ws)
   rules : (most : ℕ) → rowTests most k (take (width k) ws ++ rest) ≡ rowTests most k ws
 
 row : (k : Kind) (ws rest : List ℕ) → width k ≤ length ws → Row k ws rest
 unfolding numbers width rowTests
-row (input own) ws rest w = record { spelled = inputLine; rules = λ most. refl }
+row (input own) ws rest w = record { spelled = λ most d p. inputLine; rules = λ most. refl }
 row (latch own) [] rest w = absurd (omega arith)
 row (latch own) (a ∷ []) rest w = absurd (omega arith)
-row (latch own) (a ∷ r ∷ ws) rest w = record { spelled = shown-spelled own a r rest; rules = λ most. refl }
+row (latch own) (a ∷ r ∷ ws) rest w = record { spelled = λ most d p. shown-spelled own a r rest (d .0) (leb-true r 2 (p .1 .0)); rules = λ most. refl }
 row literal [] rest w = absurd (omega arith)
-row literal (a ∷ ws) rest w = record { spelled = lampLine; rules = λ most. refl }
+row literal (a ∷ ws) rest w = record { spelled = λ most d p. lampLine; rules = λ most. refl }
 row (gate own) [] rest w = absurd (omega arith)
 row (gate own) (a ∷ []) rest w = absurd (omega arith)
-row (gate own) (a ∷ b ∷ ws) rest w = record { spelled = gateLine; rules = λ most. refl }
+row (gate own) (a ∷ b ∷ ws) rest w = record { spelled = λ most d p. gateLine; rules = λ most. refl }
 
-written-says : (ks : List Kind) (ws : List ℕ) → size ks ≤ length ws → Says newline [] ks (take (size ks) ws) (writeBody ks ws)
-unfolding writeBody size
-written-says [] ws h = stop
-written-says (k ∷ ks) ws h =
-    rw take-add (line (row k ws (take (size ks) (drop (width k) ws)) (omega arith) .spelled) (written-says ks (drop (width k) ws) (simp length-drop (omega arith))))
+written-says : (most : ℕ) (ks : List Kind) (ws : List ℕ) → Owned most ks → Passed (tableTests most ks ws) → size ks ≤ length ws
+    → Says newline [] ks (take (size ks) ws) (writeBody ks ws)
+unfolding writeBody size tableTests
+written-says most [] ws o p h = stop
+written-says most (k ∷ ks) ws o p h =
+    let q = passed-append (rowTests most k ws) (tableTests most ks (drop (width k) ws)) p in
+    rw take-add (line (row k ws (take (size ks) (drop (width k) ws)) (omega arith) .spelled most (o .0) (q .0))
+    (written-says most ks (drop (width k) ws) (o .1) (q .1) (simp length-drop (omega arith))))
 
 -- words beyond the lines' are ignored
 take-rules : (most : ℕ) (ks : List Kind) (ws : List ℕ) → size ks ≤ length ws → tableTests most ks (take (size ks) ws) ≡ tableTests most ks ws
@@ -102,7 +107,7 @@ module _ (c : Counts) (table : List ℕ) (legal : 0 ≡ refusal (circuitTests c 
         body = writeBody (kinds c) table;
         text = refl;
         rest = [];
-        says = rw (← size-kinds c) (written-says (kinds c) table (omega (arith, size-kinds c)));
+        says = rw (← size-kinds c) (written-says (top c) (kinds c) table (owned-kinds c) (k .rules) (omega (arith, size-kinds c)));
         closes = done;
       }
 

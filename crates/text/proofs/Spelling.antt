@@ -1,11 +1,11 @@
 -- A line as it is spelled: its kind, its words and its numbers, and that the reader takes exactly such a line (specification, 4). Assumes nothing.
-use mathlib.Core.Path.{_≡_, refl, sym, _∙_, subst⁻¹}
-use mathlib.Core.Bool.{true}
+use mathlib.Core.Path.{_≡_, refl, sym, _∙_, ap, subst⁻¹}
+use mathlib.Core.Bool.{Bool, true, false}
 use mathlib.Core.List.{List, [], _∷_, _++_}
 use Prim.Native.Nat.{ℕ, zero, suc, _≤_, _<_}
 use native.Mathlib.Omega.{arith}
-use borrow.Author.Tests.{eqb-true, leb-true, leb-false, eq-eqb}
-use lib.Dec.{leb}
+use borrow.Author.Tests.{eqb-true, leb-true, leb-false, eq-eqb, lt-leb, le-leb, ne-eqb, eqb-false}
+use lib.Dec.{leb, eqb}
 use lib.ListN.{length, getD, drop, List·getD-eq-default}
 use lib.Seq.{drop-at}
 use Rattle.three.specs.Lists.{tabulate}
@@ -14,7 +14,7 @@ use Rattle.circuit.specs.RulesInCode.{Passed}
 use Rattle.circuit.specs.Table.{Kind, input, latch, literal, gate, width, rowTests}
 use Rattle.text.specs.Text.{fits, owns, words, lineTests, resetWord, shown}
 use Rattle.text.proofs.Lines.{Short}
-use Rattle.text.proofs.Tables.{due}
+use Rattle.text.proofs.Tables.{Due}
 
 -- A line's kind, its words in front of the words ws, and its numbers; the reset may be absent, which is 0
 pub data Spelled (ws : List ℕ) : Kind → List ℕ → List ℕ → Type 0 where
@@ -26,20 +26,35 @@ pub data Spelled (ws : List ℕ) : Kind → List ℕ → List ℕ → Type 0 whe
 
 -- ---- the reset of a latch
 
-reset-absent : (own : ℕ) → resetWord own 0 ≡ 0
+pub reset-known : (own r : ℕ) → r ≤ 1 → resetWord own r ≡ r
 unfolding resetWord
-reset-absent own = refl
+reset-known own r h = rw (le-leb r 1 h, resetWord) refl
+
+pub reset-own : (own r : ℕ) → 1 < r → r ≡ own → resetWord own r ≡ 2
+unfolding resetWord
+reset-own own r h e = rw (lt-leb r 1 h, resetWord) (ap (λ (b : Bool). elim b [ true ↦ 2 | false ↦ 3 ]) (eq-eqb r own e))
+
+pub reset-other : (own r : ℕ) → 1 < r → (r ≡ own → ⊥) → resetWord own r ≡ 3
+unfolding resetWord
+reset-other own r h e = rw (lt-leb r 1 h, resetWord) (ap (λ (b : Bool). elim b [ true ↦ 2 | false ↦ 3 ]) (ne-eqb r own e))
+
+reset-absent : (own : ℕ) → resetWord own 0 ≡ 0
+reset-absent own = reset-known own 0 (omega arith)
 
 -- a reset word that 8 does not refuse is of a number of at most five digits
-reset-short : (own r : ℕ) → resetWord own r ≤ 1 → r < 100000
-unfolding resetWord
-reset-short own r h = omega arith
+reset-short : (own r : ℕ) → own < 100000 → resetWord own r ≤ 2 → r < 100000
+reset-short own r o h =
+    by-test (leb r 1) (λ e. omega (arith, leb-true r 1 e))
+    (λ e. by-test (eqb r own) (λ f. rw (eqb-true r own f) o)
+    (λ f. absurd (omega (arith, reset-other own r (leb-false r 1 e) (eqb-false r own f)))))
 
 -- what a latch shows is read as its reset word
-pub shown-spelled : (own next reset : ℕ) (ws : List ℕ) → Spelled ws (latch own) (next ∷ reset ∷ ws) (own ∷ next ∷ shown own reset)
+pub shown-spelled : (own next reset : ℕ) (ws : List ℕ) → 2 ≤ own → reset ≤ 2 → Spelled ws (latch own) (next ∷ reset ∷ ws) (own ∷ next ∷ shown own reset)
 unfolding shown resetWord
-shown-spelled own next zero ws = latchPlain
-shown-spelled own next (suc r) ws = latchLine
+shown-spelled own next zero ws o r = latchPlain
+shown-spelled own next (suc zero) ws o r = latchLine
+shown-spelled own next (suc (suc zero)) ws o r = rw (← (reset-own own own o refl)) latchLine
+shown-spelled own next (suc (suc (suc n))) ws o r = absurd (omega arith)
 
 -- ---- a line's words at the front of the table
 
@@ -62,10 +77,10 @@ pub record Seen (most : ℕ) (k : Kind) (all ws ns : List ℕ) : Type 0 where
   pub passes : Passed (lineTests most k ns)
   pub gives : words k ns ++ ws ≡ all
 
-pub seen : {most : ℕ} {k : Kind} {all ws ns : List ℕ} → most < 100000 → due k ≤ most → Spelled ws k all ns → Passed (rowTests most k all) → Seen most k all ws ns
-unfolding due lineTests fits owns words rowTests
+pub seen : {most : ℕ} {k : Kind} {all ws ns : List ℕ} → most < 100000 → Due most k → Spelled ws k all ns → Passed (rowTests most k all) → Seen most k all ws ns
+unfolding lineTests fits owns words rowTests
 seen m d (inputLine {own = own}) p = record { shape = omega arith; passes = (refl, (eq-eqb own own refl, p)); gives = refl }
-seen m d (latchLine {own = own} {reset = reset}) p = record { shape = omega (arith, leb-true, reset-short own reset (leb-true _ 1 (p .1 .0))); passes = (refl, (eq-eqb own own refl, p)); gives = refl }
+seen m d (latchLine {own = own} {reset = reset}) p = record { shape = omega (arith, leb-true, reset-short own reset (omega arith) (leb-true _ 2 (p .1 .0))); passes = (refl, (eq-eqb own own refl, p)); gives = refl }
 seen m d (latchPlain {own = own}) p = record { shape = omega (arith, leb-true); passes = (refl, (eq-eqb own own refl, rw (reset-absent own) p)); gives = rw (reset-absent own) }
 seen m d lampLine p = record { shape = omega (arith, leb-true); passes = (refl, (refl, p)); gives = refl }
 seen m d (gateLine {own = own}) p = record { shape = omega (arith, leb-true); passes = (refl, (eq-eqb own own refl, p)); gives = refl }

@@ -53,31 +53,35 @@ module _ (kind : ℕ → Kind) (own n : ℕ) (ks : List Kind) where
 
 -- ---- own literals
 
--- the own literal due, 0 for a lamp
-unfoldable pub due : Kind → ℕ
-due (input own) = own
-due (latch own) = own
-due literal = 0
-due (gate own) = own
+-- an own literal is neither constant, so no reset of 0 or 1 is one, and at most the largest literal; a lamp has none
+abbrev pub Due : ℕ → Kind → Type 0
+Due most (input own) = (2 ≤ own) × (own ≤ most)
+Due most (latch own) = (2 ≤ own) × (own ≤ most)
+Due most literal = Unit {0}
+Due most (gate own) = (2 ≤ own) × (own ≤ most)
 
--- each is at most the largest literal
 abbrev pub Owned : ℕ → List Kind → Type 0
 Owned most [] = Unit {0}
-Owned most (k ∷ ks) = (due k ≤ most) × Owned most ks
+Owned most (k ∷ ks) = Due most k × Owned most ks
 
-owned-several : (most last : ℕ) (kind : ℕ → Kind) → ((own : ℕ) → own ≤ last → due (kind own) ≤ most)
-    → (own n : ℕ) (ks : List Kind) → own + 2 * n ≤ last + 2 → Owned most ks → Owned most (several kind own n ks)
+owned-several : (most : ℕ) (kind : ℕ → Kind) → ((own : ℕ) → 2 ≤ own → own ≤ most → Due most (kind own))
+    → (own n : ℕ) (ks : List Kind) → 2 ≤ own → own + 2 * n ≤ most + 2 → Owned most ks → Owned most (several kind own n ks)
 unfolding several
-owned-several most last kind d own zero ks h o = o
-owned-several most last kind d own (suc n) ks h o = (d own (omega arith), owned-several most last kind d (own + 2) n ks (omega arith) o)
+owned-several most kind d own zero ks l h o = o
+owned-several most kind d own (suc n) ks l h o = (d own l (omega arith), owned-several most kind d (own + 2) n ks (omega arith) (omega arith) o)
+
+owned-literals : (most own n : ℕ) (ks : List Kind) → Owned most ks → Owned most (several (λ own. literal) own n ks)
+unfolding several
+owned-literals most own zero ks o = o
+owned-literals most own (suc n) ks o = (tt, owned-literals most (own + 2) n ks o)
 
 pub owned-kinds : (c : Counts) → Owned (top c) (kinds c)
-unfolding kinds due
+unfolding kinds
 owned-kinds c =
-    owned-several (top c) (top c) input (λ own h. h) _ (c .inputs) _ (omega arith)
-    (owned-several (top c) (top c) latch (λ own h. h) _ (c .latches) _ (omega arith)
-    (owned-several (top c) (2 * literals c) (λ own. literal) (λ own h. omega arith) _ (literals c) _ (omega arith)
-    (owned-several (top c) (top c) gate (λ own h. h) _ (c .gates) _ (omega arith) tt)))
+    owned-several (top c) input (λ own l h. (l, h)) _ (c .inputs) _ (omega arith) (omega arith)
+    (owned-several (top c) latch (λ own l h. (l, h)) _ (c .latches) _ (omega arith) (omega arith)
+    (owned-literals (top c) _ (literals c) _
+    (owned-several (top c) gate (λ own l h. (l, h)) _ (c .gates) _ (omega arith) (omega arith) tt)))
 
 -- ---- what 3, 10 and 11 refuse
 

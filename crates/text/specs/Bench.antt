@@ -41,7 +41,7 @@ outcomeOf t = readText t
 abbrev pub AsSaid : List Case → Type 0
 AsSaid cs = map (λ (c : Case). outcomeOf (bytes (c .text))) cs ≡ map (λ (c : Case). c .outcome) cs
 
--- T, H, K, S, E and C, and the two starred refusals; then the two cases without a star
+-- T, H, K, S, E and C, the latch without a start value (request 1) and the starred refusal; then the two cases without a star
 pub cases : List Case
 cases =
     says "aag 1 0 1 1 0/2 3/2/" 0 1 1 0 (3 ∷ 0 ∷ 2 ∷ [])
@@ -50,7 +50,7 @@ cases =
     ∷ says "aag 3 0 2 1 1/2 4/4 2 1/6/6 4 2/" 0 2 1 1 (4 ∷ 0 ∷ 2 ∷ 1 ∷ 6 ∷ 4 ∷ 2 ∷ [])
     ∷ says "aag 1 0 1 1 0/2 1/2/" 0 1 1 0 (1 ∷ 0 ∷ 2 ∷ [])
     ∷ says "aag 5 0 2 1 3/2 3/4 11/10/6 4 3/8 5 2/10 9 7/" 0 2 1 3 (3 ∷ 0 ∷ 11 ∷ 0 ∷ 10 ∷ 4 ∷ 3 ∷ 5 ∷ 2 ∷ 9 ∷ 7 ∷ [])
-    ∷ "aag 1 0 1 0 0/2 2 2/" is 8
+    ∷ says "aag 1 0 1 0 0/2 2 2/" 0 1 0 0 (2 ∷ 2 ∷ [])
     ∷ "aag 2 1 0 0 1/2/4 4 2/" is 7
     ∷ says "aag 0 0 0 0 0/" 0 0 0 0 []
     ∷ "aag 2 1 0 0 1/2/4 6 2/" is 6

@@ -22,9 +22,9 @@ headNumbers c = variables c ∷ c .inputs ∷ c .latches ∷ c .lamps ∷ c .gat
 
 -- ---- writing
 
--- how the latch with the literal own shows its reset word: it is given only where it is not 0
+-- how the latch with the literal own shows its reset word: 0 is left out, and no start value (2) is the own literal
 unfoldable pub shown : ℕ → ℕ → List ℕ
-shown own word = elim word [ zero ↦ [] | suc r ↦ suc r ∷ [] ]
+shown own word = elim word [ zero ↦ [] | suc r ↦ elim r [ zero ↦ 1 ∷ [] | suc n ↦ own ∷ [] ] ]
 
 -- the numbers of a line whose words open ws
 unfoldable pub numbers : Kind → List ℕ → List ℕ
@@ -53,9 +53,9 @@ unfoldable pub owns : Kind → List ℕ → Bool
 owns kind ns =
     elim kind [ input own ↦ eqb (getD ns 0 0) own | latch own ↦ eqb (getD ns 0 0) own | literal ↦ true | gate own ↦ eqb (getD ns 0 0) own ]
 
--- the reset word of a latch whose line shows the literal own and the reset r
+-- the reset word of a latch whose line shows the literal own and the reset r: 0, 1, 2 for the own literal, and 3 for any other number
 unfoldable pub resetWord : ℕ → ℕ → ℕ
-resetWord own r = r
+resetWord own r = elim (leb r 1) [ true ↦ r | false ↦ elim (eqb r own) [ true ↦ 2 | false ↦ 3 ] ]
 
 -- the words that a line gives; an absent reset is 0
 unfoldable pub words : Kind → List ℕ → List ℕ

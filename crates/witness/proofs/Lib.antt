@@ -4,6 +4,7 @@ pub mod WrongVersions
 pub mod Order
 pub mod TickBoolean
 pub mod Switching
+pub mod Starting
 pub mod Refused
 pub mod LampsBefore
 pub mod Reached

@@ -5,3 +5,4 @@ pub mod Witness
 pub mod Ring
 pub mod Order
 pub mod Switched
+pub mod Unstarted

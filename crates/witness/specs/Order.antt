@@ -93,13 +93,13 @@ many = record { inputs = 257; latches = 1; lamps = 1; gates = 0 }
 abbrev good : List ℕ
 good = 1 ∷ 0 ∷ 4 ∷ []
 
--- reset 2
+-- reset 3
 abbrev broken : List ℕ
-broken = 1 ∷ 2 ∷ 4 ∷ []
+broken = 1 ∷ 3 ∷ 4 ∷ []
 
 -- the same, and a word short
 abbrev short : List ℕ
-short = 1 ∷ 2 ∷ []
+short = 1 ∷ 3 ∷ []
 
 -- a record with 0 in its field, one with the pair 11, and one with a leftover bit set
 abbrev off : List ℕ

@@ -69,11 +69,20 @@ pub latch-plain : {own next reset : ℕ} → own < 10000 → next < 10000 → re
 unfolding andMore shown
 latch-plain o n e = record { same = rw e; wide = refl; small = omega arith }
 
-pub latch-given : {own next : ℕ} (reset : ℕ) → own < 10000 → next < 10000 → reset < 10000 → (reset ≡ 0 → ⊥)
-    → LatchLine own next reset (record { more = 2; first = own; second = next; third = reset; words = 2 })
-unfolding andMore shown
-latch-given zero o n r f = absurd (f refl)
-latch-given (suc reset) o n r f = record { same = refl; wide = refl; small = omega arith }
+pub shown-one : (own reset : ℕ) → reset ≡ 1 → shown own reset ≡ 1 ∷ []
+unfolding shown
+shown-one own reset e = rw e refl
+
+pub shown-own : (own reset : ℕ) → 1 < reset → shown own reset ≡ own ∷ []
+unfolding shown
+shown-own own zero h = absurd (omega arith)
+shown-own own (suc zero) h = absurd (omega arith)
+shown-own own (suc (suc n)) h = refl
+
+pub latch-given : {own next reset third : ℕ} → own < 10000 → next < 10000 → third < 10000 → shown own reset ≡ third ∷ []
+    → LatchLine own next reset (record { more = 2; first = own; second = next; third = third; words = 2 })
+unfolding andMore
+latch-given o n t e = record { same = rw e; wide = refl; small = omega arith }
 
 module _ (own : ℕ) (words : List ℕ) (at : ℕ) where
   word-first : getD (drop at words) 0 0 ≡ getD words at 0

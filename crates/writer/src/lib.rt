@@ -8,12 +8,12 @@ use text::MAGIC;
 ghost use mathlib.Core.Path.{_≡_};
 ghost use Prim.Native.Nat.{_≤_, _<_, _+_, _*_};
 ghost use lib.ListN.{length};
-ghost use mathlib.Core.List.{_++_};
+ghost use mathlib.Core.List.{_++_, [], _∷_};
 ghost use Rattle.circuit.specs.RulesInCode.{Bounded};
 ghost use Rattle.circuit.specs.Table.{width};
 ghost use Rattle.text.specs.Decimal.{decimal};
 ghost use Rattle.text.specs.Line.{lineText};
-ghost use Rattle.text.specs.Text.{magic, headNumbers, writeText};
+ghost use Rattle.text.specs.Text.{magic, headNumbers, shown, writeText};
 ghost use Rattle.text.specs.Calls.{Writing};
 ghost use Rattle.text.specs.KindsInCode.{coded};
 ghost use Rattle.putting.specs.PutInCode.{Put};
@@ -55,7 +55,18 @@ fn put_line(text: &mut [u8], at: usize, line: LineNumbers) -> usize
     putting::put_word(text, third, line.third, 10)
 }
 
-// Written text gives the reset only where it is 1.
+// The number that stands for a reset of 1, or for no start value.
+fn shown_reset(own: usize, reset: usize) -> usize
+    requires { ⌜ (own < 10000) × (0 < reset) ⌝ }
+    ensures { λ r. ⌜ (r < 10000) × (shown own reset ≡ r ∷ []) ⌝ }
+{
+    if reset == 1 {
+        return 1;
+    }
+    own
+}
+
+// A reset of 0 is left out.
 fn latch_line(own: usize, next: usize, reset: usize) -> LineNumbers
     requires { ⌜ (own < 10000) × (next < 10000) × (reset < 10000) ⌝ }
     ensures { λ r. ⌜ LatchLine own next reset r ⌝ }
@@ -73,7 +84,7 @@ fn latch_line(own: usize, next: usize, reset: usize) -> LineNumbers
         more: 2,
         first: own,
         second: next,
-        third: reset,
+        third: shown_reset(own, reset),
         words: 2,
     }
 }
