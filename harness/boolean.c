@@ -1,7 +1,8 @@
 /* No verdict is contradicted by random Boolean simulation: boolean TICKS [SEED] [FILE..]
  *
  * Reads the given circuits and random ones of its own, runs each with several intervals and buffers, and where a run is
- * closed lets 64 executions of the circuit go in plain Booleans, with random switches. At each tick t the lamps must
+ * closed lets 64 executions of the circuit go in plain Booleans, with random switches, each from a random state that the
+ * resets allow. At each tick t the lamps must
  * agree with the verdict, from tick j on the latches with the settled record, and the state must lie inside cube t, or
  * from tick n on inside cube j + (t - j) mod (n - j). TICKS is how many ticks are done at least, each execution's
  * counted; half of them go to the files. Exits 1, with the circuit's text, on a contradiction; and where TICKS is a
@@ -39,7 +40,7 @@ struct run {
 };
 
 static struct {
-    uint64_t circuits, files, runs, closed, no_room, never, always, open, open_seen_both, settled, ticks;
+    uint64_t circuits, files, runs, closed, no_room, never, always, open, open_seen_both, settled, free_starts, ticks;
 } sum;
 
 static struct circuit circuit;
@@ -86,12 +87,19 @@ static uint64_t *state(void)
     return value + 1 + circuit.counts.inputs;
 }
 
+/* A latch without a start value starts by chance, in each execution by itself. */
+static uint64_t start_of(uint16_t reset)
+{
+    sum.free_starts += reset == CHUDRAVIK_NO_START;
+    return reset == CHUDRAVIK_NO_START ? draw() : reset == 1 ? UINT64_MAX : 0;
+}
+
 static void start(void)
 {
     for (size_t i = 0; i < circuit.counts.inputs; i++)
         switches[i] = 0;
     for (size_t i = 0; i < circuit.counts.latches; i++)
-        state()[i] = circuit.table[2 * i + 1] ? UINT64_MAX : 0;
+        state()[i] = start_of(circuit.table[2 * i + 1]);
 }
 
 /* A quarter of the executions have their switches by even chance, one mostly off, one mostly on, one seldom moved. */
@@ -376,7 +384,7 @@ static void draw_chain(size_t at, size_t size)
     uint16_t becomes = (uint16_t)below(2);
     for (size_t i = 0; i < size; i++) {
         draft.next[at + i] = i == 0 ? becomes : latch(at + i - 1);
-        draft.reset[at + i] = becomes ^ 1;
+        draft.reset[at + i] = one_in(8) ? CHUDRAVIK_NO_START : becomes ^ 1;
     }
     hint(both(latch(at + size - 1) ^ becomes ^ 1, latch(at) ^ becomes));
 }
@@ -387,16 +395,21 @@ static void draw_keepers(size_t at, size_t size)
     for (size_t i = 0; i < size; i++) {
         bool high = one_in(2);
         draft.next[at + i] = high ? either(latch(at + i), any_literal()) : both(latch(at + i), any_literal());
-        draft.reset[at + i] = one_in(4) ? !high : high;
+        draft.reset[at + i] = one_in(8) ? CHUDRAVIK_NO_START : one_in(4) ? !high : high;
         hint(latch(at + i));
     }
+}
+
+static uint16_t any_reset(void)
+{
+    return one_in(4) ? CHUDRAVIK_NO_START : one_in(2);
 }
 
 static void draw_shift(size_t at, size_t size)
 {
     for (size_t i = 0; i < size; i++) {
         draft.next[at + i] = i == 0 ? any_literal() : latch(at + i - 1);
-        draft.reset[at + i] = one_in(2);
+        draft.reset[at + i] = any_reset();
     }
 }
 
@@ -404,7 +417,7 @@ static void draw_wild(size_t at, size_t size)
 {
     for (size_t i = 0; i < size; i++) {
         draft.next[at + i] = any_literal();
-        draft.reset[at + i] = one_in(2);
+        draft.reset[at + i] = any_reset();
     }
 }
 
@@ -470,6 +483,11 @@ static void add_numbers(const char *before, size_t count, const size_t *numbers)
     circuit.text_bytes += (size_t)bytes;
 }
 
+static size_t reset_shown(size_t own, uint16_t reset)
+{
+    return reset == CHUDRAVIK_NO_START ? own : reset;
+}
+
 /* A reset of 0 is sometimes written out: a reader must take both. */
 static void write_draft(void)
 {
@@ -480,7 +498,7 @@ static void write_draft(void)
     for (size_t i = 0; i < n.inputs; i++, own += 2)
         add_numbers("", 1, &own);
     for (size_t i = 0; i < n.latches; i++, own += 2)
-        add_numbers("", draft.reset[i] || one_in(4) ? 3 : 2, (size_t[]){own, draft.next[i], draft.reset[i]});
+        add_numbers("", draft.reset[i] || one_in(4) ? 3 : 2, (size_t[]){own, draft.next[i], reset_shown(own, draft.reset[i])});
     for (size_t i = 0; i < n.lamps; i++)
         add_numbers("", 1, (size_t[]){draft.lamp[i]});
     for (size_t i = 0; i < n.gates; i++, own += 2)
@@ -541,6 +559,7 @@ static void print_sum(void)
     printf("verdicts: never %" PRIu64 ", always %" PRIu64 ", open %" PRIu64 " (seen both lit and dark %" PRIu64 ")\n",
            sum.never, sum.always, sum.open, sum.open_seen_both);
     printf("settled latches %" PRIu64 "\n", sum.settled);
+    printf("latches started by chance %" PRIu64 "\n", sum.free_starts);
     printf("ticks %" PRIu64 "\n", sum.ticks);
 }
 
@@ -564,7 +583,8 @@ int main(int argc, char **argv)
         examine_random();
     print_sum();
     if (ticks >= MANY_TICKS &&
-        (sum.never < LEAST_OF_A_KIND || sum.always < LEAST_OF_A_KIND || sum.settled < LEAST_OF_A_KIND)) {
+        (sum.never < LEAST_OF_A_KIND || sum.always < LEAST_OF_A_KIND || sum.settled < LEAST_OF_A_KIND ||
+         sum.free_starts < LEAST_OF_A_KIND)) {
         fprintf(stderr, "boolean: too few verdicts of a kind\n");
         return 1;
     }

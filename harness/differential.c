@@ -25,7 +25,8 @@ enum {
     GATES_CEILING = 3327,
     WORDS_CEILING = 2 * LATCHES_CEILING + LAMPS_CEILING + 2 * GATES_CEILING,
     TEXT_CEILING = 60000,
-    WRITTEN_CEILING = 57122,
+    WRITTEN_CEILING = 58415,
+    NO_START = 2,
     CUBES_CEILING = 65536,
     LONGEST_TEXT = 70000 /* that is made here, so that 1 is met too */
 };
@@ -211,7 +212,7 @@ static void set_resets(circuit *c)
 {
     bool mixed = chance(60);
     for (size_t i = 0; i < c->counts.latches; i++)
-        c->reset[i] = (uint16_t)(mixed ? below(2) : 0);
+        c->reset[i] = (uint16_t)(mixed ? below(3) : 0);
 }
 
 static void set_random_lamps(circuit *c)
@@ -233,7 +234,7 @@ static void make_widest_circuit(circuit *c)
     }
     for (size_t i = 0; i < LATCHES_CEILING; i++) {
         c->next[i] = (uint16_t)between(1000, top_literal(c));
-        c->reset[i] = 1;
+        c->reset[i] = NO_START;
     }
     for (size_t i = 0; i < LAMPS_CEILING; i++)
         c->lamp[i] = (uint16_t)between(1000, top_literal(c));
@@ -508,9 +509,10 @@ static uint16_t edge_literal(const circuit *c, size_t own)
                             32768, 65535, below(65536));
 }
 
-static uint16_t edge_reset(void)
+/* Among them, in a text, the own literals of the latches beside this one. */
+static uint16_t edge_reset(size_t own)
 {
-    return (uint16_t)ONE_OF(0, 1, 2, 2, 3, 256, 257, 8191, 32768, 65535, below(65536));
+    return (uint16_t)ONE_OF(0, 1, NO_START, 3, 3, own - 2, own + 1, own + 2, 256, 257, 8191, 32768, 65535, below(65536));
 }
 
 static void damage_latch(circuit *c, size_t i)
@@ -519,7 +521,7 @@ static void damage_latch(circuit *c, size_t i)
     if (parts & 1)
         c->next[i] = edge_literal(c, latch_literal(c, i));
     if (parts & 2)
-        c->reset[i] = edge_reset();
+        c->reset[i] = edge_reset(latch_literal(c, i));
 }
 
 static void damage_lamp(circuit *c, size_t i)
@@ -663,7 +665,7 @@ static void append_latch(text *t, const circuit *c, size_t i, bool reset_shown)
     append_number(t, latch_literal(c, i), ' ');
     append_number(t, c->next[i], reset_shown ? ' ' : '\n');
     if (reset_shown)
-        append_number(t, c->reset[i], '\n');
+        append_number(t, c->reset[i] == NO_START ? latch_literal(c, i) : c->reset[i], '\n');
 }
 
 static void append_body(text *t, const circuit *c, unsigned zero_resets_percent)
@@ -998,6 +1000,7 @@ enum sight {
     SOME_SETTLED,
     SOME_NEVER,
     SOME_ALWAYS,
+    UNKNOWN_START,
     LARGEST_CIRCUIT,
     LONGEST_WRITTEN,
     BOOLEAN_TICK,
@@ -1015,8 +1018,9 @@ static const char *const sight_names[SIGHTS] = {
     "runs with settled latches",
     "runs with a lamp that never lights",
     "runs with a lamp that is always lit",
+    "runs closed from a latch without a start value",
     "accepted calls with every count at its ceiling",
-    "texts of 57,122 bytes written",
+    "texts of 58,415 bytes written",
     "ticks without X",
     "ticks with X",
     "texts written and read back alike",
@@ -1204,6 +1208,7 @@ static void see_run(chudravik_counts counts, size_t w, const answer *run)
     see(CLOSED_WIDENED, w != 0 && run->cubes > w);
     see(SOME_SETTLED, run->settled > 0);
     see(SOME_NEVER, has_pair(of_library(&hand, VERDICT), counts.lamps, 1));
+    see(UNKNOWN_START, has_pair(of_library(&hand, CUBES), counts.latches, 0));
     see(SOME_ALWAYS, has_pair(of_library(&hand, VERDICT), counts.lamps, 2));
 }
 

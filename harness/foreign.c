@@ -50,8 +50,8 @@ static size_t bytes_before_comment(size_t text_bytes)
     return text_bytes;
 }
 
-/* Scope document, "Text": written text gives the reset only where it is 1, and no comment. The tool leaves out a reset
- * of 0 as well, so nothing but the comment may differ. */
+/* Written text leaves out a reset of 0, gives the own literal where there is no start value, and has no comment. The tool
+ * does the same, so nothing but the comment may differ. */
 static int same_when_written(const char *path, chudravik_counts counts, size_t text_bytes, size_t *written_bytes)
 {
     size_t words = CHUDRAVIK_TABLE_WORDS(counts.latches, counts.lamps, counts.gates);

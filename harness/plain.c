@@ -101,7 +101,7 @@ static bool rules_kept(const chudravik_counts *counts, const uint16_t *table)
 {
     size_t most = 2 * variables_of(counts) + 1;
     for (size_t i = 0; i < counts->latches; i++) {
-        if (table[2 * i] > most || table[2 * i + 1] > 1) {
+        if (table[2 * i] > most || table[2 * i + 1] > CHUDRAVIK_NO_START) {
             return false;
         }
     }
@@ -234,8 +234,9 @@ static void store_start(const uint16_t *table, size_t latches, uint8_t *cube)
 {
     memset(cube, 0, record_length(latches));
     for (size_t i = 0; i < latches; i++) {
-        uint8_t reset = table[2 * i + 1] == 0 ? CHUDRAVIK_LOW : CHUDRAVIK_HIGH;
-        cube[i / 4] |= (uint8_t)(reset << (6 - 2 * (i % 4)));
+        uint16_t reset = table[2 * i + 1];
+        uint8_t field = reset == 0 ? CHUDRAVIK_LOW : reset == 1 ? CHUDRAVIK_HIGH : CHUDRAVIK_UNKNOWN;
+        cube[i / 4] |= (uint8_t)(field << (6 - 2 * (i % 4)));
     }
 }
 
@@ -464,7 +465,7 @@ static uint32_t judge_latch(const uint8_t **at, const uint8_t *end, size_t own, 
     if (numbers[1] > most) {
         return CHUDRAVIK_LITERAL_TOO_LARGE;
     }
-    return count == 3 && numbers[2] > 1 ? CHUDRAVIK_RESET : CHUDRAVIK_ACCEPTED;
+    return count == 3 && numbers[2] > 1 && numbers[2] != own ? CHUDRAVIK_RESET : CHUDRAVIK_ACCEPTED;
 }
 
 static uint32_t judge_lamp(const uint8_t **at, const uint8_t *end, size_t most)
@@ -531,7 +532,7 @@ static void fill(const uint8_t *at, const uint8_t *end, const chudravik_counts *
     for (size_t i = 0; i < counts->latches; i++) {
         size_t count = read_line(&at, end, 3, numbers);
         *table++ = (uint16_t)numbers[1];
-        *table++ = count == 3 ? (uint16_t)numbers[2] : 0;
+        *table++ = count < 3 ? 0 : numbers[2] > 1 ? CHUDRAVIK_NO_START : (uint16_t)numbers[2];
     }
     for (size_t i = 0; i < counts->lamps; i++) {
         read_line(&at, end, 1, numbers);
@@ -600,7 +601,7 @@ static size_t text_length(const chudravik_counts *counts, const uint16_t *table)
         length += digits(own) + 1;
     }
     for (size_t i = 0; i < counts->latches; i++, own += 2, table += 2) {
-        length += digits(own) + digits(table[0]) + 2 + (table[1] == 0 ? 0 : 2);
+        length += digits(own) + digits(table[0]) + 2 + (table[1] == 0 ? 0 : table[1] == 1 ? 2 : digits(own) + 1);
     }
     for (size_t i = 0; i < counts->lamps; i++, table++) {
         length += digits(table[0]) + 1;
@@ -630,11 +631,11 @@ static void put_body(uint8_t *restrict at, const chudravik_counts *counts, const
     }
     for (size_t i = 0; i < counts->latches; i++, own += 2, table += 2) {
         at = put_number(at, own, ' ');
-        if (table[1] == 0) { /* "the reset only where it is 1" */
+        if (table[1] == 0) { /* "resets of 0 are left out" */
             at = put_number(at, table[0], '\n');
         } else {
             at = put_number(at, table[0], ' ');
-            at = put_number(at, table[1], '\n');
+            at = put_number(at, table[1] == 1 ? 1 : own, '\n');
         }
     }
     for (size_t i = 0; i < counts->lamps; i++, table++) {

@@ -91,10 +91,18 @@ static size_t table_length(const circuit *c)
     return 2 * c->latches + c->lamps + 2 * c->gates;
 }
 
+/* Request 1: a latch without a start value repeats its own literal, and is kept in the table as 2. */
+enum { NO_START_VALUE = 2, NO_RESET = 3 };
+
+static size_t reset_shown(size_t own, size_t number)
+{
+    return number <= 1 ? number : number == own ? NO_START_VALUE : NO_RESET;
+}
+
 /* Refusals 6 and 8, 6, and 6 and 7, as a line gives them; 0 where there is nothing to refuse. */
 static uint32_t judge_latch(const circuit *c, latch l)
 {
-    return l.next > top_literal(c) ? 6 : l.reset > 1 ? 8 : 0;
+    return l.next > top_literal(c) ? 6 : l.reset > NO_START_VALUE ? 8 : 0;
 }
 
 static uint32_t judge_lamp(const circuit *c, size_t literal)
@@ -276,7 +284,7 @@ static uint32_t read_latch(reading *r, circuit *c, size_t i)
         return 4;
     if (due->number[0] != own_of_latch(c, i))
         return 5;
-    c->latch[i] = (latch){due->number[1], due->count == 3 ? due->number[2] : 0};
+    c->latch[i] = (latch){due->number[1], due->count == 3 ? reset_shown(due->number[0], due->number[2]) : 0};
     return judge_latch(c, c->latch[i]);
 }
 
@@ -371,8 +379,12 @@ static void put_circuit(written *out, const circuit *c)
     put(out, "aag %zu %zu %zu %zu %zu\n", variables(c), c->inputs, c->latches, c->lamps, c->gates);
     for (size_t i = 0; i < c->inputs; i++)
         put(out, "%zu\n", own_of_input(i));
-    for (size_t i = 0; i < c->latches; i++)
-        put(out, "%zu %zu%s\n", own_of_latch(c, i), c->latch[i].next, c->latch[i].reset == 1 ? " 1" : "");
+    for (size_t i = 0; i < c->latches; i++) {
+        put(out, "%zu %zu", own_of_latch(c, i), c->latch[i].next);
+        if (c->latch[i].reset != 0)
+            put(out, " %zu", c->latch[i].reset == NO_START_VALUE ? own_of_latch(c, i) : 1);
+        put(out, "\n");
+    }
     for (size_t i = 0; i < c->lamps; i++)
         put(out, "%zu\n", c->lamp[i]);
     for (size_t i = 0; i < c->gates; i++)
@@ -541,11 +553,16 @@ static void add_cube(chain *run, const value *fields)
     run->count++;
 }
 
+static value start_value(size_t reset)
+{
+    return reset == 0 ? KNOWN_0 : reset == 1 ? KNOWN_1 : UNKNOWN;
+}
+
 static void start(chain *run)
 {
     value resets[LATCHES_CEILING];
     for (size_t i = 0; i < run->circuit->latches; i++)
-        resets[i] = run->circuit->latch[i].reset == 1 ? KNOWN_1 : KNOWN_0;
+        resets[i] = start_value(run->circuit->latch[i].reset);
     add_cube(run, resets);
 }
 

@@ -45,17 +45,19 @@ extern "C" {
 #define CHUDRAVIK_MOST_GATES 3327
 #define CHUDRAVIK_MOST_VARIABLES 4095    /* inputs + latches + gates */
 #define CHUDRAVIK_MOST_TEXT 60000        /* bytes of a text that is read */
-#define CHUDRAVIK_MOST_WRITTEN 57122     /* bytes of a text that is written: no circuit needs more */
+#define CHUDRAVIK_MOST_WRITTEN 58415     /* bytes of a text that is written: no circuit needs more */
 #define CHUDRAVIK_MOST_INTERVAL 1000     /* w */
 #define CHUDRAVIK_MOST_CUBE_BYTES 65536  /* the cube buffer */
 #define CHUDRAVIK_MOST_STACK 8192
 
 /* ---- lengths ---- */
 
-/* Words of the table of a circuit: for each latch its next literal and its reset; then the lamp literals; then two
+/* Words of the table of a circuit: for each latch its next literal and its reset (0, 1, or CHUDRAVIK_NO_START for a
+ * latch without a start value, which a text shows as the latch's own literal); then the lamp literals; then two
  * operands a gate. A literal is 2 x variable, plus 1 if inverted; variables are numbered from 1, first the inputs, then
  * the latches, then the gates; literals 0 and 1 are the constants. Words beyond are ignored, and never written. */
 #define CHUDRAVIK_TABLE_WORDS(latches, lamps, gates) (2 * (size_t)(latches) + (size_t)(lamps) + 2 * (size_t)(gates))
+#define CHUDRAVIK_NO_START 2
 
 /* The table of any circuit fits in this many words. */
 #define CHUDRAVIK_MOST_TABLE_WORDS CHUDRAVIK_TABLE_WORDS(CHUDRAVIK_MOST_LATCHES, CHUDRAVIK_MOST_LAMPS, CHUDRAVIK_MOST_GATES)
@@ -88,10 +90,10 @@ extern "C" {
 #define CHUDRAVIK_OWN_LITERAL 5         /* own literal not the one due in that place */
 #define CHUDRAVIK_LITERAL_TOO_LARGE 6   /* another literal above 2M + 1 */
 #define CHUDRAVIK_OPERAND_NOT_BELOW 7   /* gate operand not below the gate's own literal */
-#define CHUDRAVIK_RESET 8               /* reset other than 0 or 1 */
+#define CHUDRAVIK_RESET 8               /* reset other than 0, 1 or the latch's own literal */
 #define CHUDRAVIK_TRAILING 9            /* anything else after the last line */
 #define CHUDRAVIK_TOO_SHORT 10          /* a lent table, record or result too short */
-#define CHUDRAVIK_TABLE 11              /* a lent table that breaks 6, 7 or 8 */
+#define CHUDRAVIK_TABLE 11              /* a lent table that breaks 6 or 7, or has a reset above 2 */
 #define CHUDRAVIK_INTERVAL 12           /* w above 1,000 */
 #define CHUDRAVIK_CUBE_BUFFER 13        /* cube buffer under one record or over 65,536 bytes */
 #define CHUDRAVIK_RECORD 14             /* a pair 11, or a leftover bit set, in a given record */
