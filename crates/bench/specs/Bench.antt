@@ -30,7 +30,7 @@ C· = "aag 5 0 2 1 3/2 3/4 11/10/6 4 3/8 5 2/10 9 7/"
 abbrev U· : String
 U· = "aag 2 0 2 1 0/2 0 2/4 2/4/"
 
--- in the document's order; all but the run of no counts, U and the refusal 6 are starred
+-- in the document's order; all but the case of no counts, U and the refusal 6 are starred. Of a text without lamps the reading is said, and its run is refused (request 2)
 unfoldable pub cases : List Case
 cases =
     closes T· 0 (cubes (0x40 ∷ 0x80 ∷ []) ∷ n 2 ∷ j 0 ∷ s 0 ∷ verdict (0x00 ∷ []) ∷ [])
@@ -44,8 +44,8 @@ cases =
     ∷ closes C· 0 (cubes (0x50 ∷ 0x90 ∷ 0x60 ∷ 0xA0 ∷ []) ∷ n 4 ∷ j 0 ∷ [])
     ∷ closes C· 2 (cubes (0x50 ∷ 0x90 ∷ 0x00 ∷ []) ∷ n 3 ∷ j 2 ∷ [])
     ∷ closes C· 3 (cubes (0x50 ∷ 0x90 ∷ 0x60 ∷ 0x20 ∷ 0x00 ∷ []) ∷ n 5 ∷ j 4 ∷ [])
-    ∷ closes "aag 0 0 0 0 0/" 0 (cubes (0x00 ∷ []) ∷ n 1 ∷ [])
-    ∷ closes "aag 1 0 1 0 0/2 2 2/" 0 (cubes (0x00 ∷ []) ∷ n 1 ∷ j 0 ∷ [])
+    ∷ runs "aag 0 0 0 0 0/" 0 100 (number 16 ∷ n 0 ∷ j 0 ∷ s 0 ∷ cubes [] ∷ verdict [] ∷ settled [] ∷ [])
+    ∷ runs "aag 1 0 1 0 0/2 2 2/" 0 100 (number 16 ∷ n 0 ∷ j 0 ∷ s 0 ∷ cubes [] ∷ verdict [] ∷ settled [] ∷ [])
     ∷ closes U· 0 (cubes (0x10 ∷ 0x40 ∷ []) ∷ n 2 ∷ j 0 ∷ s 0 ∷ verdict (0x00 ∷ []) ∷ [])
     ∷ refuses "aag 2 1 0 0 1/2/4 4 2/" 7
     ∷ refuses "aag 2 1 0 0 1/2/4 6 2/" 6

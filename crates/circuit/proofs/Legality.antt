@@ -1,4 +1,4 @@
--- A circuit that is not refused is legal: what 3, 10 and 11 leave out, block by block and rule by rule. Assumes nothing.
+-- A circuit that is not refused is legal: what 3, 10 and 11 leave out, block by block and rule by rule; and 16, which is a run's. Assumes nothing.
 use mathlib.Core.Path.{_≡_, sym, _∙_}
 use mathlib.Core.Bool.{true, false, _&&_}
 use mathlib.Core.List.{List}
@@ -11,8 +11,8 @@ use Rattle.three.proofs.Lists.{and-parts, every-at}
 use Rattle.circuit.specs.declared.Counts.{Counts}
 use Rattle.circuit.specs.Refusal.{refusal, allHold}
 use Rattle.circuit.specs.RulesInCode.{Passed, latchKept, literalKept, gateKept, Bounded, Legal}
-use Rattle.circuit.specs.Table.{top, tableLength, kinds, tableTests, ceilingTests, wordTests, circuitTests, boardTests, gatesAt}
-use Rattle.circuit.proofs.Refusals.{Numbered, Alike, stops, past, none, passes, fails, passed-refusal, none-append, append-past}
+use Rattle.circuit.specs.Table.{top, tableLength, kinds, tableTests, ceilingTests, wordTests, circuitTests, lampTests, boardTests, gatesAt}
+use Rattle.circuit.proofs.Refusals.{Numbered, Alike, stops, past, none, passes, fails, passed-refusal, refuses-whole, none-past, none-append, append-past, none-behind}
 use Rattle.circuit.proofs.Rules.{Latches, Literals, Gates, table-rules}
 
 -- ---- 3: the ceilings
@@ -42,6 +42,20 @@ module _ (c : Counts) where
 
   pub within-ceilings : Bounded c → 0 ≡ refusal (ceilingTests c)
   within-ceilings b = passed-refusal (ceilingTests c) (bounded-passed b)
+
+  -- ---- 16
+
+  pub lamps-numbered : Numbered (lampTests c)
+  unfolding lampTests
+  lamps-numbered = omega arith
+
+  pub no-lamp : c .lamps ≡ 0 → 16 ≡ refusal (lampTests c)
+  unfolding lampTests
+  no-lamp z = stops _ _ (lt-leb 1 (c .lamps) (omega arith))
+
+  pub some-lamp : 1 ≤ c .lamps → 0 ≡ refusal (lampTests c)
+  unfolding lampTests
+  some-lamp h = past _ _ (le-leb 1 (c .lamps) h) none
 
 -- ---- 10 for the table, 11
 
@@ -103,13 +117,26 @@ module _ (c : Counts) (table : List ℕ) where
   legal e = let p = circuit-blocks e in legal-words (p .0) (p .1)
 
   pub board-numbered : Numbered (boardTests c table)
-  unfolding boardTests ceilingTests wordTests
+  unfolding boardTests ceilingTests lampTests wordTests
   board-numbered = omega arith
 
   pub board-legal : 0 ≡ refusal (boardTests c table) → Legal c table
   unfolding boardTests
-  board-legal e = let p = none-append (ceilingTests c) (wordTests c table) (ceilings-numbered c) e in legal-words (bounded c (p .0)) (p .1)
+  board-legal e =
+      let p = none-append (ceilingTests c) _ (ceilings-numbered c) e in
+      legal-words (bounded c (p .0)) (none-append (lampTests c) (wordTests c table) (lamps-numbered c) (p .1) .1)
 
-  pub board-passes : 0 ≡ refusal (circuitTests c table) → 0 ≡ refusal (boardTests c table)
+  -- without a lamp it is 16, whatever the table
+  pub board-lampless : Bounded c → c .lamps ≡ 0 → 16 ≡ refusal (boardTests c table)
   unfolding boardTests
-  board-passes e = let p = circuit-blocks e in append-past (ceilingTests c) _ (bounded-passed c (p .0)) (p .1)
+  board-lampless b z = append-past (ceilingTests c) _ (bounded-passed c b) (refuses-whole (lampTests c) _ _ (no-lamp c z) (λ e. omega arith))
+
+  -- with one the words decide
+  pub board-lit : Bounded c → 1 ≤ c .lamps → {k : ℕ} → k ≡ refusal (wordTests c table) → k ≡ refusal (boardTests c table)
+  unfolding boardTests
+  board-lit b h e = append-past (ceilingTests c) _ (bounded-passed c b) (none-past (lampTests c) _ (lamps-numbered c) (some-lamp c h) e)
+
+  -- a circuit that may be written is refused as a board for want of a lamp, or not at all
+  pub board-decides : 0 ≡ refusal (circuitTests c table) → refusal (lampTests c) ≡ refusal (boardTests c table)
+  unfolding boardTests
+  board-decides e = let p = circuit-blocks e in append-past (ceilingTests c) _ (bounded-passed c (p .0)) (none-behind (lampTests c) (wordTests c table) (p .1))

@@ -86,6 +86,20 @@ none-append (s ∷ ss) ts n e =
     (λ h. let q = none-append ss ts (n .1) (rw (refusal, h) at e) in (past s ss h (q .0), q .1))
     (λ h. absurd (let z : 0 ≡ s .number = rw (refusal, h) at e in omega (arith, n .0)))
 
+-- where the others refuse nothing the first tests decide
+pub none-behind : (ss ts : List Test) → 0 ≡ refusal ts → refusal ss ≡ refusal (ss ++ ts)
+unfolding refusal
+none-behind [] ts e = e
+none-behind (s ∷ ss) ts e = by-test (s .holds) (λ h. past s (ss ++ ts) h (rw (refusal, h) (none-behind ss ts e))) (λ h. rw (refusal, h))
+
+-- first tests that refuse alike go alike with the others
+pub refusal-alike : (rs ss ts : List Test) → Numbered rs → Numbered ss → refusal rs ≡ refusal ss → refusal (rs ++ ts) ≡ refusal (ss ++ ts)
+refusal-alike rs ss ts m n same = go (refusal rs) refl
+  where
+    go : (k : ℕ) → refusal rs ≡ k → refusal (rs ++ ts) ≡ refusal (ss ++ ts)
+    go zero e = sym (none-past rs ts m (sym e) refl) ∙ none-past ss ts n (sym e ∙ same) refl
+    go (suc k) e = sym (refusal-append rs ts e) ∙ refusal-append ss ts (sym same ∙ e)
+
 -- ---- what a call leaves
 
 pub refused-old : {A : Type 0} (k : ℕ) (new old : A) → (k ≡ 0 → ⊥) → old ≡ leftBy k new old

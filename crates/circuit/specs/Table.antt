@@ -85,6 +85,10 @@ wordTests c table = leb (tableLength c) (length table) or 10 ∷ allHold (tableT
 unfoldable pub circuitTests : Counts → List ℕ → List Test
 circuitTests c table = ceilingTests c ++ wordTests c table
 
--- a circuit that is run: the same
+-- 16: a run without a lamp has nothing to judge
+unfoldable pub lampTests : Counts → List Test
+lampTests c = leb 1 (c .lamps) or 16 ∷ []
+
+-- a circuit that is run: 3, 16, 10 for the table, 11
 unfoldable pub boardTests : Counts → List ℕ → List Test
-boardTests c table = ceilingTests c ++ wordTests c table
+boardTests c table = ceilingTests c ++ (lampTests c ++ wordTests c table)

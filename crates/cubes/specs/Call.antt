@@ -38,7 +38,7 @@ outcomeNumber e = elim e [ stops n j ↦ 0 | full ↦ 15 ]
 unfoldable pub runResultTests : Counts → ℕ → ℕ → List Test
 runResultTests c verdict settled = leb (bytesFor (c .lamps)) verdict or 10 ∷ leb (bytesFor (c .latches)) settled or 10 ∷ []
 
--- 3, 10 for the table, 11, 12, 13, 10 for results; the buffers by their lengths
+-- 3, 16, 10 for the table, 11, 12, 13, 10 for results; the buffers by their lengths
 unfoldable pub runTests : Counts → List ℕ → ℕ → ℕ → ℕ → ℕ → List Test
 runTests c table w cubes verdict settled =
     boardTests c table ++ (leb w 1000 or 12 ∷ leb (cubeBytes (c .latches)) cubes or 13 ∷ leb cubes 65536 or 13 ∷ runResultTests c verdict settled)

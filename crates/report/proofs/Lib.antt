@@ -1,3 +1,4 @@
+pub mod Lamps
 pub mod Reporting
 pub mod Determined
 pub mod Overlong

@@ -1,7 +1,7 @@
 -- The report from what the reader and the run answer: the tables and records that the program lends are long enough for any circuit. Assumes nothing.
 use mathlib.Core.Path.{_≡_, refl, sym, ap, ap₂, _∙_}
 use mathlib.Core.List.{List, _++_}
-use Prim.Native.Nat.{ℕ, _+_, _/_, _≤_}
+use Prim.Native.Nat.{ℕ, zero, suc, _+_, _/_, _≤_}
 use native.Mathlib.Nat.{zero-add}
 use native.Mathlib.Omega.{arith}
 use lib.ListN.{length}
@@ -9,10 +9,11 @@ use Rattle.three.specs.Lists.{over}
 use Rattle.three.specs.Record.{unpack}
 use Rattle.circuit.specs.declared.Counts.{Counts}
 use Rattle.circuit.specs.Circuit.{Circuit}
-use Rattle.circuit.specs.Refusal.{refusal}
-use Rattle.circuit.specs.Table.{tableLength, circuitOf, boardTests}
+use Rattle.circuit.specs.Refusal.{refusal, leftBy}
+use Rattle.circuit.specs.Table.{tableLength, circuitOf, lampTests, boardTests}
 use Rattle.circuit.specs.RulesInCode.{Bounded}
 use Rattle.circuit.proofs.Beyond.{circuit-front}
+use Rattle.circuit.proofs.Refusals.{refused-old}
 use Rattle.text.specs.Outcome.{Outcome, accepted, refused, numberOf, leaves}
 use Rattle.text.specs.Text.{Content, readText}
 use Rattle.putting.specs.PutInCode.{Put}
@@ -28,13 +29,13 @@ use Rattle.cubes.specs.Buffer.{cubeBytes}
 use Rattle.cubes.proofs.StoredCube.{few-bytes}
 use Rattle.cubes.specs.Run.{run}
 use Rattle.cubes.specs.Call.{roomIn, RunGiven, refusedBy, circuitIn, outcomeIn, Runs}
-use Rattle.run.proofs.Refusing.{run-passes}
+use Rattle.run.proofs.Refusing.{board-alone}
 use Rattle.cubes.proofs.Promising.{outcome-is, verdict-is, settled-is, count-is, only-full}
 use Rattle.rows.specs.declared.Row.{Row}
 use Rattle.rows.specs.Rows.{rows}
 use Rattle.report.specs.Report.{closing, refusing, closedReport, ended, runReport, reportOf, Reported}
 use Rattle.report.specs.ReportInCode.{reported}
-use Rattle.circuit.proofs.Legality.{board-passes}
+use Rattle.circuit.proofs.Legality.{board-decides}
 
 -- a report that is put from the front
 pub put-report : {text out out′ : List ℕ} {r : ℕ} (report : List ℕ) → report ≡ reportOf text → Put out 0 report out′ r × (r ≤ length out) → Reported text out r out′
@@ -94,31 +95,46 @@ module _ {text : List ℕ} {counts : Counts} {table : List ℕ} (read : Read tex
   abbrev pub given : RunGiven
   given = record { counts = counts; table = table; w = 16; cubes = cubes; verdict = verdict; settled = settled }
 
-  runnable : 0 ≡ refusal (boardTests counts table)
-  runnable = rw (read .counts-are) (board-passes _ _ (read .carries .legal))
-
-  passes : refusedBy given ≡ 0
+  -- before 15 the run is refused for want of a lamp, or not at all
+  refused-is : refusedBy given ≡ refusal (lampTests counts)
   unfolding refusedBy
-  passes = sym (run-passes counts table 16 (length cubes) (length verdict) (length settled) runnable (omega arith) (omega (arith, few-bytes (few read .latches), c)) (omega (arith, c)) (omega (arith, few read, v)) (omega (arith, few read, s)))
+  refused-is =
+      let board : refusal (lampTests counts) ≡ refusal (boardTests counts table) = rw (read .counts-are) (board-decides _ _ (read .carries .legal)) in
+      sym (board ∙ board-alone counts table 16 (length cubes) (length verdict) (length settled) (omega arith) (omega (arith, few-bytes (few read .latches), c)) (omega (arith, c)) (omega (arith, few read, v)) (omega (arith, few read, s)))
 
   same-circuit : circuitIn given ≡ circuitOf (read .content .counts) (read .content .words)
   unfolding circuitIn
   same-circuit = ap (λ (k : Counts). circuitOf k table) (read .counts-are) ∙ sym (circuit-front (read .content .counts) table) ∙ ap (circuitOf (read .content .counts)) (read .carries .front)
 
-  -- the report is that of the run's outcome
-  report-is : reportOf text ≡ ended (circuitIn given) (outcomeIn given)
+  -- the report is that refusal, or that of the run's outcome
+  report-is : reportOf text ≡ leftBy (refusedBy given) (ended (circuitIn given) (outcomeIn given)) (refusing (refusedBy given))
   unfolding reportOf runReport outcomeIn roomIn
   report-is =
       let room = ap₂ (λ (n : ℕ) (k : Counts). n / cubeBytes (k .latches)) c (read .counts-are) in
-      ap reported (read .is) ∙ sym (ap₂ (λ (k : Circuit) (n : ℕ). ended k (run k 16 n)) same-circuit room)
+      let refused : refusal (lampTests (read .content .counts)) ≡ refusedBy given = sym (refused-is ∙ ap (λ (k : Counts). refusal (lampTests k)) (read .counts-are)) in
+      ap reported (read .is)
+      ∙ ap₂ (λ (k : ℕ) (l : List ℕ). leftBy k l (refusing k)) refused (sym (ap₂ (λ (k : Circuit) (n : ℕ). ended k (run k 16 n)) same-circuit room))
 
   module _ {r : RunAnswer} {cubes′ verdict′ settled′ : List ℕ} (runs : Runs given r cubes′ verdict′ settled′) where
+    number-is : {k : ℕ} → refusedBy given ≡ suc k → r .number ≡ suc k
+    number-is e = runs .answers ∙ sym (refused-old (refusedBy given) _ _ (λ z. omega (arith, e))) ∙ e
+
+    -- a run that is refused here gives 16, the number of the lamps' test, or 15
     pub run-refused : (r .number ≡ 0 → ⊥) → refusing (r .number) ≡ reportOf text
-    unfolding ended
-    run-refused h = let is = only-full given r cubes′ verdict′ settled′ runs passes h in rw (report-is, is .0, is .1)
+    unfolding ended leftBy
+    run-refused h = go (refusedBy given) refl
+      where
+        go : (k : ℕ) → refusedBy given ≡ k → refusing (r .number) ≡ reportOf text
+        go zero ok = let is = only-full given r cubes′ verdict′ settled′ runs ok h in rw (report-is, ok, is .0, is .1)
+        go (suc k) e = rw (report-is, e, number-is e)
 
     pub run-closed : r .number ≡ 0
         → closing (r .cubes) (r .back) (r .settled) ++ (rows Row.Lamp 0 (unpack (counts .lamps) verdict′) ++ rows Row.Latch 0 (unpack (counts .latches) settled′)) ≡ reportOf text
-    unfolding ended closedReport
-    run-closed z =
-        rw (report-is, outcome-is given r cubes′ verdict′ settled′ runs z, verdict-is given r cubes′ verdict′ settled′ runs z, settled-is given r cubes′ verdict′ settled′ runs z, count-is given r cubes′ verdict′ settled′ runs z)
+    unfolding ended closedReport leftBy
+    run-closed z = go (refusedBy given) refl
+      where
+        go : (k : ℕ) → refusedBy given ≡ k
+            → closing (r .cubes) (r .back) (r .settled) ++ (rows Row.Lamp 0 (unpack (counts .lamps) verdict′) ++ rows Row.Latch 0 (unpack (counts .latches) settled′)) ≡ reportOf text
+        go zero ok =
+            rw (report-is, ok, outcome-is given r cubes′ verdict′ settled′ runs z, verdict-is given r cubes′ verdict′ settled′ runs z, settled-is given r cubes′ verdict′ settled′ runs z, count-is given r cubes′ verdict′ settled′ runs z)
+        go (suc k) e = absurd (omega (arith, number-is e))

@@ -6,7 +6,8 @@ use lib.ListN.{length}
 use Rattle.three.specs.Lists.{over}
 use Rattle.three.specs.Cube.{Cube, knownFields}
 use Rattle.circuit.specs.Circuit.{Circuit}
-use Rattle.circuit.specs.Table.{circuitOf}
+use Rattle.circuit.specs.Refusal.{refusal, leftBy}
+use Rattle.circuit.specs.Table.{circuitOf, lampTests}
 use Rattle.text.specs.Outcome.{accepted, refused}
 use Rattle.text.specs.Text.{Content, readText}
 use Rattle.text.specs.Bench.{bytes}
@@ -31,9 +32,12 @@ closedReport n j lamps latches = closing n j (knownFields latches) ++ (rows Row.
 unfoldable pub ended : Circuit → Ending → List ℕ
 ended c e = elim e [ stops n j ↦ closedReport n j (verdict c (cubeAt c 16) n) (settled c (cubeAt c 16) n j) | full ↦ refusing 15 ]
 
--- and a cube buffer of 65,536 bytes
+-- and a cube buffer of 65,536 bytes; of the run's refusals before 15 a circuit that is read can meet 16 alone
 unfoldable pub runReport : Content → List ℕ
-runReport t = let c : Circuit = circuitOf (t .counts) (t .words) in ended c (run c 16 (65536 / cubeBytes (t .counts .latches)))
+runReport t =
+    let c : Circuit = circuitOf (t .counts) (t .words) in
+    let refused : ℕ = refusal (lampTests (t .counts)) in
+    leftBy refused (ended c (run c 16 (65536 / cubeBytes (t .counts .latches)))) (refusing refused)
 
 -- the report on a text
 unfoldable pub reportOf : List ℕ → List ℕ

@@ -9,7 +9,7 @@ use Rattle.circuit.specs.declared.Counts.{Counts}
 use Rattle.circuit.specs.Refusal.{Test, refusal}
 use Rattle.circuit.specs.Table.{boardTests}
 use Rattle.circuit.specs.RulesInCode.{Legal}
-use Rattle.circuit.proofs.Refusals.{stops, past, none, passes, none-append, refuses-whole, none-past}
+use Rattle.circuit.proofs.Refusals.{stops, past, none, passes, none-append, refuses-whole, none-past, none-behind, passed-refusal}
 use Rattle.circuit.proofs.Legality.{board-numbered, board-legal}
 use Rattle.cubes.specs.Buffer.{cubeBytes}
 use Rattle.cubes.specs.Call.{runTests, runResultTests}
@@ -56,6 +56,13 @@ module _ (c : Counts) (table : List ℕ) (w n v s : ℕ) where
           pub run-passes : bytesFor (c .lamps) ≤ v → bytesFor (c .latches) ≤ s → 0 ≡ number
           unfolding runResultTests
           run-passes lv ls = past-cubes (past _ _ (le-leb (bytesFor (c .lamps)) v lv) (past _ _ (le-leb (bytesFor (c .latches)) s ls) none))
+
+  -- where w and the buffers are in order the board decides
+  pub board-alone : w ≤ 1000 → cubeBytes (c .latches) ≤ n → n ≤ 65536 → bytesFor (c .lamps) ≤ v → bytesFor (c .latches) ≤ s → refusal (boardTests c table) ≡ number
+  unfolding runTests runResultTests
+  board-alone lw ln mn lv ls =
+      none-behind (boardTests c table) _
+      (passed-refusal _ (le-leb w 1000 lw, (le-leb (cubeBytes (c .latches)) n ln, (le-leb n 65536 mn, (le-leb (bytesFor (c .lamps)) v lv, (le-leb (bytesFor (c .latches)) s ls, tt))))))
 
   -- what holds where none is given
   pub record Accepted : Type 0 where

@@ -1,4 +1,4 @@
-// The refusals of a table of words: 3, 10 and 11 (specification, 3.5 to 3.7).
+// The refusals of a table of words: 3, 10 and 11 (specification, 3.5 to 3.7), and 16 for a run (5.8).
 use circuit::Counts;
 use circuit::MOST_GATES;
 use circuit::MOST_INPUTS;
@@ -151,6 +151,9 @@ pub fn board_refusal(counts: Counts, table: &[u16]) -> u32
     let refused = ceiling_refusal(counts);
     if refused != 0 {
         return refused;
+    }
+    if counts.lamps == 0 {
+        return 16;
     }
     word_refusal(counts, table)
 }

@@ -1,19 +1,18 @@
 -- What the contract of the run allows is its `answerIn`, and of the lent buffers that needs the lengths alone. Assumes nothing.
 use mathlib.Core.Path.{_≡_, refl, sym, ap, _∙_}
-use mathlib.Core.List.{List, [], _∷_}
+use mathlib.Core.List.{List, []}
 use Prim.Native.Nat.{ℕ, zero, suc, _/_}
-use lib.Dec.{leb}
 use lib.ListN.{length, replicate, length-replicate}
 use Rattle.three.specs.Lists.{over}
 use Rattle.three.specs.Cube.{knownFields}
 use Rattle.circuit.specs.declared.Counts.{Counts}
 use Rattle.circuit.specs.Refusal.{Test, _or_, refusal, leftBy}
 use Rattle.circuit.specs.Table.{circuitOf, boardTests}
-use Rattle.circuit.proofs.Refusals.{none-past}
+use Rattle.circuit.proofs.Refusals.{refusal-alike}
 use Rattle.cubes.specs.declared.RunAnswer.{RunAnswer}
 use Rattle.cubes.specs.Buffer.{cubeBytes}
 use Rattle.cubes.specs.Run.{run}
-use Rattle.cubes.specs.Call.{roomIn, runResultTests, runTests, RunGiven, refusedBy, circuitIn, outcomeIn, cubesIn, backIn, verdictFields, settledFields, Runs}
+use Rattle.cubes.specs.Call.{roomIn, runTests, RunGiven, refusedBy, circuitIn, outcomeIn, cubesIn, backIn, verdictFields, settledFields, Runs}
 use Rattle.witness.specs.Answer.{Answer, answerFrom, answerIn, Sized, zeroed}
 use Rattle.circuit.proofs.Legality.{board-numbered}
 
@@ -57,16 +56,6 @@ answer-alike : (g h : RunGiven) → refusedBy g ≡ refusedBy h → circuitIn g 
 unfolding answerIn outcomeIn
 answer-alike g h refused circuit w room i = answerFrom (refused i) (circuit i) (w i) (room i) (run (circuit i) (w i) (room i))
 
--- the tests of a run behind 3, 10 for the table and 11
-abbrev restTests : Counts → ℕ → ℕ → ℕ → ℕ → List Test
-restTests c w cubes verdict settled =
-    leb w 1000 or 12 ∷ leb (cubeBytes (c .latches)) cubes or 13 ∷ leb cubes 65536 or 13 ∷ runResultTests c verdict settled
-
-rest-decides : (g : RunGiven) → 0 ≡ refusal (boardTests (g .counts) (g .table))
-    → refusedBy g ≡ refusal (restTests (g .counts) (g .w) (length (g .cubes)) (length (g .verdict)) (length (g .settled)))
-unfolding refusedBy runTests
-rest-decides g legal = sym (none-past (boardTests (g .counts) (g .table)) _ (board-numbered (g .counts) (g .table)) legal refl)
-
 -- the buffers' lengths
 pub answer-zeroed : (size : ℕ) (g : RunGiven) → Sized size g → answerIn g ≡ answerIn (zeroed (g .counts) (g .table) (g .w) size)
 unfolding refusedBy circuitIn roomIn
@@ -78,11 +67,10 @@ answer-zeroed size g sized =
     refl
     (λ i. long i / cubeBytes (g .counts .latches))
 
--- and of two tables that 3, 10 and 11 do not refuse the circuit alone
-pub answer-tables : (c : Counts) (table table′ : List ℕ) (w size : ℕ) → 0 ≡ refusal (boardTests c table) → 0 ≡ refusal (boardTests c table′)
+-- and of two tables that are refused alike, or neither, the circuit alone
+pub answer-tables : (c : Counts) (table table′ : List ℕ) (w size : ℕ) → refusal (boardTests c table) ≡ refusal (boardTests c table′)
     → circuitOf c table ≡ circuitOf c table′ → answerIn (zeroed c table w size) ≡ answerIn (zeroed c table′ w size)
-unfolding circuitIn
-answer-tables c table table′ w size legal legal′ circuit =
-    let g : RunGiven = zeroed c table w size in
-    let h : RunGiven = zeroed c table′ w size in
-    answer-alike g h (rest-decides g legal ∙ sym (rest-decides h legal′)) circuit refl refl
+unfolding circuitIn refusedBy runTests
+answer-tables c table table′ w size alike circuit =
+    let refused = refusal-alike (boardTests c table) (boardTests c table′) _ (board-numbered c table) (board-numbered c table′) alike in
+    answer-alike (zeroed c table w size) (zeroed c table′ w size) refused circuit refl refl

@@ -24,7 +24,7 @@ use Rattle.witness.specs.Answer.{Answer, answerIn, zeroed}
 use Rattle.witness.specs.Case.{Claim, number, n, j, s, cubes, verdict, settled, Case, refuses, runs, Says, SaysAll, RefusedAs, RanAs, Meant, MeantAll, same, holds, holdAll, tableOf, refusedWith, ranAs, passes, allPass}
 use Rattle.witness.specs.Computed.{computed}
 use Rattle.witness.proofs.Answers.{Answers, runs-answers, answer-zeroed, answer-tables}
-use Rattle.circuit.proofs.Legality.{board-passes}
+use Rattle.circuit.proofs.Legality.{board-decides}
 
 -- ---- a claim that is computed
 
@@ -67,7 +67,7 @@ module _ (text : List ℕ) {c : Content} (read : readText text ≡ accepted c) w
   answer-read lent fits room w size =
       let enough : tableLength (c .counts) ≤ length lent = omega arith in
       let zeros : List ℕ = replicate 16 0 in
-      answer-tables (c .counts) (over (c .words) lent) (tableOf c) w size (board-passes _ _ (carries lent enough .legal)) (board-passes _ _ (carries zeros fits .legal))
+      answer-tables (c .counts) (over (c .words) lent) (tableOf c) w size (sym (board-decides _ _ (carries lent enough .legal)) ∙ board-decides _ _ (carries zeros fits .legal))
       (circuit-read lent enough ∙ sym (circuit-read zeros fits))
 
 -- ---- a case

@@ -89,6 +89,14 @@ fair = record { inputs = 1; latches = 1; lamps = 1; gates = 0 }
 abbrev many : Counts
 many = record { inputs = 257; latches = 1; lamps = 1; gates = 0 }
 
+-- no lamp
+abbrev dark : Counts
+dark = record { inputs = 1; latches = 1; lamps = 0; gates = 0 }
+
+-- 257 inputs, and no lamp
+abbrev manyDark : Counts
+manyDark = record { inputs = 257; latches = 1; lamps = 0; gates = 0 }
+
 -- next literal 1 and reset 0, lamp literal 4
 abbrev good : List ℕ
 good = 1 ∷ 0 ∷ 4 ∷ []
@@ -136,12 +144,16 @@ ticks =
     ∷ tick fair good off off [] one gives 10
     ∷ tick fair good off off one [] gives 10
     ∷ tick fair good off off one one gives 0
+    ∷ tick dark good off off one one gives 0
     ∷ []
 
--- "Run: 3, 10 for the table, 11, 12, 13, 10 for results, 15"
+-- "Run: 3, 16, 10 for the table, 11, 12, 13, 10 for results, 15"
 unfoldable pub runs : List (Row RunGiven)
 runs =
-    run many short 1001 [] [] [] gives 3
+    run manyDark [] 1001 [] [] [] gives 3
+    ∷ run dark [] 1001 [] [] [] gives 16
+    ∷ run dark broken 1001 [] [] [] gives 16
+    ∷ run dark good 0 (replicate 2 0) one one gives 16
     ∷ run fair short 1001 [] [] [] gives 10
     ∷ run fair broken 1001 [] [] [] gives 11
     ∷ run fair good 1001 [] [] [] gives 12
@@ -162,4 +174,5 @@ writes =
     ∷ write fair broken [] gives 11
     ∷ write fair good (replicate 21 0) gives 10
     ∷ write fair good (replicate 22 0) gives 0
+    ∷ write dark good (replicate 20 0) gives 0
     ∷ []
