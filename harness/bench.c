@@ -321,6 +321,10 @@ static void check_circuits(const request *sound)
         r.table[1] = 2;
         expect(GIVEN[i], &r, CHUDRAVIK_TABLE);
     }
+    r = *sound;
+    r.counts.lamps = 0;
+    r.table_words = 0;
+    expect(&RUNNING, &r, CHUDRAVIK_NO_LAMPS);
 }
 
 static void check_lengths(const request *sound)

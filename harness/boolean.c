@@ -465,7 +465,7 @@ static void draw_draft(void)
     draw_pieces(draft.counts.latches);
     for (size_t i = below(8 + draft.counts.latches); i > 0; i--)
         add_any_gate();
-    draft.counts.lamps = below(one_in(16) ? CHUDRAVIK_MOST_LAMPS + 1 : 12);
+    draft.counts.lamps = 1 + below(one_in(16) ? CHUDRAVIK_MOST_LAMPS : 11);
     for (size_t i = 0; i < draft.counts.lamps; i++)
         draft.lamp[i] = draw_lamp();
 }

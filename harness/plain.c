@@ -340,6 +340,9 @@ static void settle_latches(const uint8_t *cubes, size_t length, size_t n, size_t
 static uint32_t run_refusal(const chudravik_counts *counts, const uint16_t *table, size_t table_words, size_t w,
                             size_t cubes_bytes, size_t verdict_bytes, size_t settled_bytes)
 {
+    if (counts_kept(counts) && counts->lamps == 0) {
+        return CHUDRAVIK_NO_LAMPS;
+    }
     uint32_t number = circuit_refusal(counts, table, table_words);
     if (number != CHUDRAVIK_ACCEPTED) {
         return number;

@@ -35,7 +35,7 @@ enum {
     LONGEST_REPORT = 16384, /* ample: a first line, and at most 15 bytes for each of 64 lamps and 512 latches */
     MOST_HEARD = 65536,     /* of what the program says; it is stopped beyond */
     MILLISECONDS_ALLOWED = 10000,
-    NUMBERS = 16,       /* 0 and the document's refusals */
+    NUMBERS = 17,       /* 0 and the document's refusals */
     COUNT_FOR_ALL = 200 /* so many random inputs have to meet the common numbers, all of them */
 };
 
@@ -564,7 +564,7 @@ static void make_small_circuit(void)
     static circuit c;
     c.counts.inputs = between(0, 5);
     c.counts.latches = between(0, 14);
-    c.counts.lamps = between(0, 9);
+    c.counts.lamps = chance(10) ? 0 : between(1, 9);
     c.counts.gates = between(0, 40);
     for (size_t i = 0; i < c.counts.latches; i++) {
         size_t next = below(gate_literal(&c, c.counts.gates));
@@ -874,7 +874,8 @@ static void make_random_input(size_t turn)
 
 static const char REPORT_ON_S[] = "cubes 2 back 0 settled 0\nlamp 0 never\nlatch 0 -\nlatch 1 -\n";
 
-/* The document's, with its `/` for byte 10; then one each for 3, 4, 5 and 9, which none of those gets. */
+/* The document's, with its `/` for byte 10; then one each for 3, 4, 5 and 9, which none of those gets; and a latch that
+ * toggles, without a lamp and with one. */
 static const char *const BENCH[] = {
     "aag 1 0 1 1 0/2 3/2/",
     "aag 3 1 1 1 1/2/4 7/4/6 3 5/",
@@ -890,6 +891,8 @@ static const char *const BENCH[] = {
     "aag 1 1 0 0 0/",
     "aag 1 1 0 0 0/4/",
     "aag 1 1 0 0 0/2/2/",
+    "aag 1 0 1 0 0/2 3/",
+    "aag 1 0 1 1 0/2 3/0/",
 };
 
 static void take_bench(const char *text)
@@ -978,7 +981,7 @@ static void print_tally(void)
 /* Judged by the random inputs alone, since the fixed ones are there to meet them. */
 static bool all_numbers_met(void)
 {
-    static const size_t due_numbers[] = {0, 1, 2, 3, 4, 9, 15};
+    static const size_t due_numbers[] = {0, 1, 2, 3, 4, 9, 15, 16};
     bool all = true;
     for (size_t i = 0; i < sizeof due_numbers / sizeof due_numbers[0]; i++)
         if (tally.random[due_numbers[i]] == 0) {

@@ -155,7 +155,7 @@ static bool sound(const circuit *c)
     return true;
 }
 
-/* The opening that writer, tick and run share: refusals 3, 10 for the table, 11. */
+/* The opening that writer and tick share: refusals 3, 10 for the table, 11. */
 static uint32_t take_circuit(circuit *c, chudravik_counts counts, const uint16_t *table, size_t table_words)
 {
     if (!within_ceilings(counts))
@@ -165,6 +165,14 @@ static uint32_t take_circuit(circuit *c, chudravik_counts counts, const uint16_t
         return 10;
     from_table(c, table);
     return sound(c) ? 0 : 11;
+}
+
+/* The run's: 16, no lamps, directly after 3. */
+static uint32_t take_board(circuit *c, chudravik_counts counts, const uint16_t *table, size_t table_words)
+{
+    if (within_ceilings(counts) && counts.lamps == 0)
+        return 16;
+    return take_circuit(c, counts, table, table_words);
 }
 
 /* ---- text: read ---- */
@@ -685,7 +693,7 @@ chudravik_run_answer simulate_run(chudravik_counts counts, const uint16_t *table
                                   uint8_t *settled, size_t settled_bytes)
 {
     circuit c;
-    uint32_t refusal = take_circuit(&c, counts, table, table_words);
+    uint32_t refusal = take_board(&c, counts, table, table_words);
     if (refusal == 0)
         refusal = judge_run(&c, w, cubes_bytes, verdict_bytes, settled_bytes);
     if (refusal != 0)

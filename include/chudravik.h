@@ -98,6 +98,7 @@ extern "C" {
 #define CHUDRAVIK_CUBE_BUFFER 13        /* cube buffer under one record or over 65,536 bytes */
 #define CHUDRAVIK_RECORD 14             /* a pair 11, or a leftover bit set, in a given record */
 #define CHUDRAVIK_NO_ROOM 15            /* no room for the next cube */
+#define CHUDRAVIK_NO_LAMPS 16           /* no lamps, so nothing that a run could judge */
 
 /* Where several apply, the first in the order named at the call is given. A refusal answers zeros beside its number and
  * changes no buffer, save 15 (chudravik_run). */
@@ -184,7 +185,7 @@ uint32_t chudravik_tick(chudravik_counts counts, const uint16_t *table, size_t t
  * from tick j on, else CHUDRAVIK_UNKNOWN.
  * A closed run (number 0) covers every execution: whatever the switches do, the state after t ticks lies in cube t, or
  * for t >= n in cube j + (t - j) mod (n - j). With w >= 1 and room for w x latches + 1 cubes a run closes within them.
- * Refusals: 3, 10 for the table, 11, 12, 13, 10 for verdict and settled, 15. After 15 the answer has n = the room,
+ * Refusals: 3, 16, 10 for the table, 11, 12, 13, 10 for verdict and settled, 15. After 15 the answer has n = the room,
  * cubes holds that many cubes, back and settled are 0, and verdict and settled stay as they were.
  * Bytes after the stored cubes and after each record stay as they were. */
 chudravik_run_answer chudravik_run(chudravik_counts counts, const uint16_t *table, size_t table_words, size_t w,
