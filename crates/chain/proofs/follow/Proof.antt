@@ -13,19 +13,10 @@ Inv-loop counts table w len room cubes₀ values₀ b₀ progress₀ cubes value
 abbrev μ-loop : tie.MeasureT-loop
 μ-loop counts table w len room cubes₀ values₀ b₀ progress₀ cubes values b progress = room - progress .count
 
-fresh-values-requires : tie.Need-fresh-values-requires Inv-loop μ-loop
-fresh-values-requires c κs = tt
-
 loop-holds : tie.Need-loop-holds Inv-loop μ-loop
 loop-holds c =
     let f = c .before .before .before .pre in
     turn-first _ _ _ _ _ _ f _ _ (fresh-begins _ (c .before .before .before .args .counts .inputs) (omega (arith, f .legal .bounded .inputs)) (c .fresh-values .ensures)) refl
-
-sub-reach : tie.Need-sub-reach Inv-loop μ-loop
-sub-reach c = omega (arith, some-cubes _ _ _ _ _ _ (c .before .before .loop .inv))
-
-mul-reach : tie.Need-mul-reach Inv-loop μ-loop
-mul-reach c = omega (arith, place-small _ _ _ _ _ _ (c .before .before .loop .inv))
 
 reach-requires : tie.Need-reach-requires Inv-loop μ-loop
 reach-requires c κs =
@@ -85,10 +76,10 @@ follow-spec =
     (tie.spec
     Inv-loop
     μ-loop
-    fresh-values-requires
+    (λ c κs. tt)
     loop-holds
-    sub-reach
-    mul-reach
+    (λ c. omega (arith, some-cubes _ _ _ _ _ _ (c .before .before .loop .inv)))
+    (λ c. omega (arith, place-small _ _ _ _ _ _ (c .before .before .loop .inv)))
     reach-requires
     slice-aggregate-search
     search-requires

@@ -66,9 +66,6 @@ loop-again c =
     let lamps = at .loop .lamps in
     (read .0, judged-next _ _ _ _ _ (pre .0) _ lamps (inv .2) (read .1) (inv .1) (c .before .before .agree .ensures), lamps-length _ _ _ _ _ (pre .0) _ lamps (inv .2) (read .1), omega (arith, c .before .before .before .before .before .before .before .before .before .loop-test .taken))
 
-same-length : tie.Need-same-length Inv-loop μ-loop
-same-length c = omega (arith, merged-length _ _ _ _ _ (c .before .loop .inv .1))
-
 returns : tie.Need-returns Inv-loop μ-loop
 returns c =
     let at = c .before in
@@ -92,5 +89,5 @@ judge-lamps-spec =
     (λ c. omega arith)
     (λ c. omega arith)
     loop-again
-    same-length
+    (λ c. omega (arith, merged-length _ _ _ _ _ (c .before .loop .inv .1)))
     returns)

@@ -58,9 +58,6 @@ loop-again c =
     let pre = at .before .before .before .before .before .before .before .pre in
     (settled-next _ _ _ _ _ (pre .0) (at .loop .inv .0) (c .before .before .agree .ensures), omega (arith, c .before .before .before .before .before .loop-test .taken))
 
-same-length : tie.Need-same-length Inv-loop μ-loop
-same-length c = omega (arith, merged-length _ _ _ _ _ (c .before .loop .inv .0))
-
 returns : tie.Need-returns Inv-loop μ-loop
 returns c =
     let at = c .before in
@@ -86,5 +83,5 @@ settle-latches-spec =
     (λ c. omega arith)
     (λ c. omega arith)
     loop-again
-    same-length
+    (λ c. omega (arith, merged-length _ _ _ _ _ (c .before .loop .inv .0)))
     returns)

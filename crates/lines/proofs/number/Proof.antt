@@ -17,9 +17,6 @@ abbrev μ-loop : tie.MeasureT-loop
 returns : tie.Need-returns Inv-loop μ-loop
 returns c = digits-none _ _ (c .before .digit-at .ensures) (c .if1 .taken)
 
-add-next : tie.Need-add-next Inv-loop μ-loop
-add-next c = omega (arith, digit-within _ _ (c .before .digit-at .ensures) (c .if1 .left))
-
 loop-holds : tie.Need-loop-holds Inv-loop μ-loop
 loop-holds c = digits-first _ _ (c .before .digit-at .ensures) (c .if1 .left)
 
@@ -46,7 +43,7 @@ number-spec =
     μ-loop
     (λ c κs. omega arith)
     returns
-    add-next
+    (λ c. omega (arith, digit-within _ _ (c .before .digit-at .ensures) (c .if1 .left)))
     loop-holds
     (λ c κs. omega arith)
     returns-2

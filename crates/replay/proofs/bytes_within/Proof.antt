@@ -5,11 +5,8 @@ use lib.Seq.{length-take-le}
 use Rattle.replay.proofs.bytes_within.Statement.{statement}
 use Rattle.replay.proofs.bytes_within.Tie as tie
 
-returns : tie.Need-returns
-returns c = (omega arith, sym (length-take-le _ _ (omega arith)))
-
 returns-2 : tie.Need-returns-2
 returns-2 c = (omega arith, sym (length-take-le _ _ (omega arith)))
 
 pub bytes-within-spec : {M : Type 1} → statement M
-bytes-within-spec = tie.close (tie.spec returns returns-2)
+bytes-within-spec = tie.close (tie.spec (λ c. (omega arith, sym (length-take-le _ _ (omega arith)))) returns-2)

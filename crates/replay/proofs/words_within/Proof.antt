@@ -5,11 +5,8 @@ use lib.Seq.{length-take-le}
 use Rattle.replay.proofs.words_within.Statement.{statement}
 use Rattle.replay.proofs.words_within.Tie as tie
 
-returns : tie.Need-returns
-returns c = (omega arith, sym (length-take-le _ _ (omega arith)))
-
 returns-2 : tie.Need-returns-2
 returns-2 c = (omega arith, sym (length-take-le _ _ (omega arith)))
 
 pub words-within-spec : {M : Type 1} → statement M
-words-within-spec = tie.close (tie.spec returns returns-2)
+words-within-spec = tie.close (tie.spec (λ c. (omega arith, sym (length-take-le _ _ (omega arith)))) returns-2)

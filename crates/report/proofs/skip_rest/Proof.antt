@@ -10,18 +10,6 @@ Inv-loop left₀ left = Unit {0}
 abbrev μ-loop : tie.MeasureT-loop
 μ-loop left₀ left = left
 
-loop-holds : tie.Need-loop-holds Inv-loop μ-loop
-loop-holds c = tt
-
-skip-some-requires : tie.Need-skip-some-requires Inv-loop μ-loop
-skip-some-requires c κs = tt
-
-returns : tie.Need-returns Inv-loop μ-loop
-returns c = tt
-
-loop-again : tie.Need-loop-again Inv-loop μ-loop
-loop-again c = tt
-
 returns-2 : tie.Need-returns-2 Inv-loop μ-loop
 returns-2 c = tt
 
@@ -31,10 +19,10 @@ skip-rest-spec =
     (tie.spec
     Inv-loop
     μ-loop
-    loop-holds
-    skip-some-requires
-    returns
+    (λ c. tt)
+    (λ c κs. tt)
+    (λ c. tt)
     (λ c. omega arith)
     (λ c. omega arith)
-    loop-again
+    (λ c. tt)
     returns-2)

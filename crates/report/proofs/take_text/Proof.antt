@@ -13,12 +13,6 @@ Inv-loop text₀ bytes₀ text bytes = (bytes ≤ length text) × (length text �
 abbrev μ-loop : tie.MeasureT-loop
 μ-loop text₀ bytes₀ text bytes = length text - bytes
 
-loop-holds : tie.Need-loop-holds Inv-loop μ-loop
-loop-holds c = (omega arith, refl)
-
-loop-again : tie.Need-loop-again Inv-loop μ-loop
-loop-again c = (omega arith, omega arith)
-
 returns-2 : tie.Need-returns-2 Inv-loop μ-loop
 returns-2 c = omega arith
 
@@ -28,12 +22,12 @@ take-text-spec =
     (tie.spec
     Inv-loop
     μ-loop
-    loop-holds
+    (λ c. (omega arith, refl))
     (λ c κs. omega arith)
     (λ c. omega arith)
     (λ c. omega arith)
     (λ c. omega arith)
     (λ c. omega arith)
-    loop-again
+    (λ c. (omega arith, omega arith))
     (λ c. omega arith)
     returns-2)

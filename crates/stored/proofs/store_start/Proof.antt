@@ -17,9 +17,6 @@ Inv-loop table count cubes₀ k₀ k-end cubes k = Stored cubes₀ 0 (pack (star
 abbrev μ-loop : tie.MeasureT-loop
 μ-loop table count cubes₀ k₀ k-end cubes k = k-end - k
 
-cube-bytes-requires : tie.Need-cube-bytes-requires Inv-loop μ-loop
-cube-bytes-requires c κs = tt
-
 loop-holds : tie.Need-loop-holds Inv-loop μ-loop
 loop-holds c = stored-first _ _ _ _
 
@@ -40,7 +37,7 @@ store-start-spec =
     (tie.spec
     Inv-loop
     μ-loop
-    cube-bytes-requires
+    (λ c κs. tt)
     loop-holds
     (λ c κs. omega arith)
     (λ c. omega arith)

@@ -45,9 +45,6 @@ Inv-loop bytes₀ other fields k₀ k-end bytes k = Filled fields bytes₀ other
 abbrev μ-loop : tie.MeasureT-loop
 μ-loop bytes₀ other fields k₀ k-end bytes k = k-end - k
 
-record-length-requires : tie.Need-record-length-requires Inv-loop μ-loop
-record-length-requires c κs = tt
-
 loop-holds : tie.Need-loop-holds Inv-loop μ-loop
 loop-holds c = stored-first _ _ _ _
 
@@ -65,4 +62,4 @@ returns c = last _ _ _ _ _ (c .before .loop .inv) (omega arith)
 
 pub agree-spec : {M : Type 1} → statement M
 agree-spec =
-    tie.close (tie.spec Inv-loop μ-loop record-length-requires loop-holds (λ c. omega arith) (λ c. omega arith) (λ c. omega arith) (λ c. omega arith) (λ c. omega arith) loop-again same-length returns)
+    tie.close (tie.spec Inv-loop μ-loop (λ c κs. tt) loop-holds (λ c. omega arith) (λ c. omega arith) (λ c. omega arith) (λ c. omega arith) (λ c. omega arith) loop-again same-length returns)

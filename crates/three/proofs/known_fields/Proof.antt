@@ -14,15 +14,6 @@ Inv-loop bytes fields counts count₀ k₀ k-end count k = (k ≤ k-end) × (cou
 abbrev μ-loop : tie.MeasureT-loop
 μ-loop bytes fields counts count₀ k₀ k-end count k = k-end - k
 
-known-table-requires : tie.Need-known-table-requires Inv-loop μ-loop
-known-table-requires c κs = tt
-
-record-length-requires : tie.Need-record-length-requires Inv-loop μ-loop
-record-length-requires c κs = tt
-
-loop-holds : tie.Need-loop-holds Inv-loop μ-loop
-loop-holds c = (omega arith, counted-first _)
-
 known-requires : tie.Need-known-requires Inv-loop μ-loop
 known-requires c κs = c .before .before .before .before .before .known-table .ensures
 
@@ -41,4 +32,4 @@ returns c =
 
 pub known-fields-spec : {M : Type 1} → statement M
 known-fields-spec =
-    tie.close (tie.spec Inv-loop μ-loop known-table-requires record-length-requires loop-holds (λ c. omega arith) known-requires (λ c. omega arith) add-count (λ c. omega arith) (λ c. omega arith) loop-again returns)
+    tie.close (tie.spec Inv-loop μ-loop (λ c κs. tt) (λ c κs. tt) (λ c. (omega arith, counted-first _)) (λ c. omega arith) known-requires (λ c. omega arith) add-count (λ c. omega arith) (λ c. omega arith) loop-again returns)

@@ -43,9 +43,6 @@ Inv-loop counts bytes fields len k₀ k = Tried len (goodByte bytes) k
 abbrev μ-loop : tie.MeasureT-loop
 μ-loop counts bytes fields len k₀ k = len - k
 
-record-length-requires : tie.Need-record-length-requires Inv-loop μ-loop
-record-length-requires c κs = tt
-
 loop-holds : tie.Need-loop-holds Inv-loop μ-loop
 loop-holds c = tried-first _ _
 
@@ -58,9 +55,6 @@ returns c = refused _ _ _ (omega arith) (sym (c .before .known .ensures) ∙ c .
 loop-again : tie.Need-loop-again Inv-loop μ-loop
 loop-again c = tried-next _ _ (c .before .before .before .before .loop .inv) (omega arith) refl (ap not (sym (judged-bad _) ∙ ne-eqb _ _ (λ e. c .if1 .left (c .before .known .ensures ∙ e))))
 
-cast-last : tie.Need-cast-last Inv-loop μ-loop
-cast-last c = omega (arith, c .shared-slice-known3 .given (c .before .before .before .record-length .result - 1))
-
 rem-result : tie.Need-rem-result Inv-loop μ-loop
 rem-result c = unit-pos (4 * c .before .before .before .record-length .result - c .before .before .before .before .before .args .fields) (omega arith)
 
@@ -70,4 +64,4 @@ returns-2 c = accepted _ _ _ _ (c .before .before .before .record-length .ensure
 pub sound-spec : {M : Type 1} → statement M
 sound-spec =
     tie.close
-    (tie.spec Inv-loop μ-loop record-length-requires loop-holds (λ c. omega arith) known-requires returns (λ c. omega arith) (λ c. omega arith) loop-again (λ c. omega arith) (λ c. omega arith) cast-last (λ c. omega arith) (λ c. omega arith) (λ c. omega arith) (λ c. omega arith) rem-result returns-2)
+    (tie.spec Inv-loop μ-loop (λ c κs. tt) loop-holds (λ c. omega arith) known-requires returns (λ c. omega arith) (λ c. omega arith) loop-again (λ c. omega arith) (λ c. omega arith) (λ c. omega (arith, c .shared-slice-known3 .given (c .before .before .before .record-length .result - 1))) (λ c. omega arith) (λ c. omega arith) (λ c. omega arith) (λ c. omega arith) rem-result returns-2)

@@ -4,12 +4,6 @@ use native.Mathlib.Omega.{arith}
 use Rattle.writer.proofs.line_length.Statement.{statement}
 use Rattle.writer.proofs.line_length.Tie as tie
 
-returns : tie.Need-returns
-returns c = omega (arith, none-length (c .before .before .before .args .line) (c .if1 .taken))
-
-returns-2 : tie.Need-returns-2
-returns-2 c = omega (arith, one-length (c .before .before .before .before .before .before .args .line) (c .if2 .taken))
-
 returns-3 : tie.Need-returns-3
 returns-3 c = omega (arith, two-length (c .before .before .before .before .before .before .before .args .line) (c .before .before .before .before .if1 .left) (c .before .if2 .left))
 
@@ -19,11 +13,11 @@ line-length-spec =
     (tie.spec
     (λ c κs. omega arith)
     (λ c. omega arith)
-    returns
+    (λ c. omega (arith, none-length (c .before .before .before .args .line) (c .if1 .taken)))
     (λ c κs. omega arith)
     (λ c. omega arith)
     (λ c. omega arith)
-    returns-2
+    (λ c. omega (arith, one-length (c .before .before .before .before .before .before .args .line) (c .if2 .taken)))
     (λ c κs. omega arith)
     (λ c. omega arith)
     (λ c. omega arith)

@@ -5,17 +5,11 @@ use native.Mathlib.Omega.{arith}
 use Rattle.writer.proofs.put_line.Statement.{statement}
 use Rattle.writer.proofs.put_line.Tie as tie
 
-put-word-requires : tie.Need-put-word-requires
-put-word-requires c κs = omega (arith, none-length (c .before .before .before .before .args .line) (c .before .if1 .taken))
-
 returns : tie.Need-returns
 returns c =
     let none = c .before .before .before .before in
     let start = none .before .before .before in
     rw (none-line (start .args .line) (none .if1 .taken)) (c .before .before .put-word .ensures .0)
-
-put-word-requires-2 : tie.Need-put-word-requires-2
-put-word-requires-2 c κs = omega (arith, some-length (c .before .before .before .before .args .line) (c .before .if1 .left))
 
 put-word-requires-3 : tie.Need-put-word-requires-3
 put-word-requires-3 c κs =
@@ -59,10 +53,10 @@ pub put-line-spec : {M : Type 1} → statement M
 put-line-spec =
     tie.close
     (tie.spec
-    put-word-requires
+    (λ c κs. omega (arith, none-length (c .before .before .before .before .args .line) (c .before .if1 .taken)))
     (λ c. omega arith)
     returns
-    put-word-requires-2
+    (λ c κs. omega (arith, some-length (c .before .before .before .before .args .line) (c .before .if1 .left)))
     put-word-requires-3
     (λ c. omega arith)
     returns-2

@@ -5,12 +5,6 @@ use borrow.Author.Needs.{needs}
 use Rattle.writer.proofs.put_magic.Statement.{statement}
 use Rattle.writer.proofs.put_magic.Tie as tie
 
-slice-write-text-2 : tie.Need-slice-write-text-2
-slice-write-text-2 c = simp length-set (omega arith)
-
-slice-write-text-3 : tie.Need-slice-write-text-3
-slice-write-text-3 c = simp length-set (omega arith)
-
 returns : tie.Need-returns
 returns c = search needs
 
@@ -21,9 +15,9 @@ put-magic-spec =
     (λ c. search needs)
     (λ c. search needs)
     (λ c. search needs)
-    slice-write-text-2
+    (λ c. simp length-set (omega arith))
     (λ c. search needs)
-    slice-write-text-3
+    (λ c. simp length-set (omega arith))
     (λ c. search needs)
     (λ c. search needs)
     (λ c. search needs)
