@@ -12,7 +12,8 @@ use Rattle.circuit.specs.declared.Counts.{Counts}
 use Rattle.circuit.specs.Circuit.{Circuit}
 use Rattle.circuit.specs.Table.{circuitOf}
 use Rattle.cubes.specs.Run.{hold, nextCube, start, Stage, reached, stage, cubeAt, at, stops, full, stepped, back, run}
-use Rattle.stored.specs.CubesInCode.{startFields, keptBytes, coversFrom, first, SwitchesX}
+use Rattle.cubes.specs.Given.{first}
+use Rattle.stored.specs.CubesInCode.{startFields, keptBytes, coversFrom, SwitchesX}
 use Rattle.cubes.proofs.Wider.{reached-sized}
 use Rattle.cubes.proofs.Growing.{held-sized}
 use Rattle.stored.proofs.Keeping.{length-kept}

@@ -11,7 +11,8 @@ use Rattle.circuit.specs.declared.Counts.{Counts}
 use Rattle.circuit.specs.Table.{circuitOf}
 use Rattle.chain.specs.declared.Progress.{Progress}
 use Rattle.cubes.specs.Run.{due, nextCube, stops, full, run}
-use Rattle.stored.specs.CubesInCode.{keptBytes, coversFrom, first, SwitchesX}
+use Rattle.cubes.specs.Given.{first}
+use Rattle.stored.specs.CubesInCode.{keptBytes, coversFrom, SwitchesX}
 use Rattle.cubes.specs.Call.{roomIn, storedCubes, backTo}
 use Rattle.chain.specs.ChainInCode.{Advanced, Chained, Followable}
 use Rattle.cubes.specs.OutcomesInCode.{hasStopped}

@@ -6,6 +6,7 @@ pub mod Places
 pub mod Cover
 pub mod Allowed
 pub mod Promise
+pub mod Covering
 pub mod Pairs
 pub mod StoredCube
 pub mod Storing

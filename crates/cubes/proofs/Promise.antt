@@ -36,7 +36,7 @@ chain-of c w (closes {k = k} past l) =
 -- ---- the promises, for any execution
 
 module _ (c : Circuit) (w room n j : ℕ) (run-closed : run c w room ≡ stops n j) where
-  run-chain : Chain c (cubeAt c w) n j
+  pub run-chain : Chain c (cubeAt c w) n j
   run-chain = chain-of c w (rw run-closed at (ran c w room))
 
   module _ (e : Execution c) where

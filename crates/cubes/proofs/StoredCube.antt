@@ -1,6 +1,6 @@
 -- A cube as it is stored: the one place that opens what its bytes are. Assumes nothing.
 use mathlib.Core.Path.{_≡_, refl, sym, ap, ap₂, _∙_}
-use mathlib.Core.Bool.{Bool, false, _||_}
+use mathlib.Core.Bool.{Bool, true, false, _||_}
 use mathlib.Core.List.{List, [], _∷_, map}
 use Prim.Native.Nat.{ℕ, zero, suc, _*_, _<_, _≤_}
 use native.Mathlib.Omega.{arith}
@@ -16,7 +16,7 @@ use Rattle.three.proofs.Pack.{length-pack, getD-pack, length-unpack, unpack-pac
 use Rattle.three.proofs.Soundness.{sound-pack, sound-take, pack-unpack}
 use Rattle.three.proofs.Bytewise.{covers, covers-subsumes}
 use Rattle.cubes.specs.Run.{hold, differing}
-use Rattle.cubes.specs.Buffer.{cubeBytes, packCube, cubeOf, cubeIn}
+use Rattle.cubes.specs.Buffer.{cubeBytes, packCube, cubeOf, soundCube, cubeIn}
 use Rattle.cubes.specs.BufferInCode.{longestCube, IsCube}
 use Rattle.cubes.specs.HeldInCode.{heldPair, heldByte, keptByte, differingByte}
 use Rattle.cubes.proofs.Pairs.{kept-byte, widened-byte}
@@ -50,6 +50,15 @@ module _ (latches : ℕ) where
     pub cube-record : IsCube latches bytes → IsRecord latches bytes
     unfolding IsCube
     cube-record is = is
+
+    -- sound bytes that are long enough
+    pub sound-cube : cubeBytes latches ≤ length bytes → soundCube latches bytes ≡ true → IsCube latches bytes
+    unfolding cubeBytes soundCube IsCube
+    sound-cube fits good = record { fits = fits; good = good }
+
+    pub cube-is-sound : IsCube latches bytes → soundCube latches bytes ≡ true
+    unfolding soundCube IsCube
+    cube-is-sound is = is .good
 
     pub cube-repacked : IsCube latches bytes → ((i : ℕ) → getD bytes i 0 < 256) → take (cubeBytes latches) bytes ≡ pack (cubeOf latches bytes)
     unfolding cubeBytes cubeOf IsCube

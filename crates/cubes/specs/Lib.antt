@@ -2,6 +2,7 @@ pub mod Run
 pub mod Execution
 pub mod Buffer
 pub mod Call
+pub mod Given
 pub mod Promise
 pub mod OutcomesInCode
 pub mod HeldInCode

@@ -6,7 +6,7 @@ use native.Mathlib.Nat.{le-of-suc-le-suc, not-suc-le-zero}
 use native.Mathlib.Omega.{arith}
 use Rattle.three.proofs.Lists.{by-test}
 use Rattle.cubes.proofs.Steps.{Searched, searched, found, none-before, none-at-all}
-use Rattle.stored.specs.CubesInCode.{first}
+use Rattle.cubes.specs.Given.{first}
 use Rattle.three.specs.Cube.{Cube, subsumes}
 use Rattle.cubes.specs.Run.{Found, at, nowhere, search}
 

@@ -13,7 +13,8 @@ use lib.Dec.{eqb}
 use lib.ListN.{length, getD}
 use Rattle.three.proofs.Lists.{every-all, every-fails}
 use Rattle.three.proofs.Loops.{Tried, tried-first, tried-next}
-use Rattle.stored.specs.CubesInCode.{coversFrom, first}
+use Rattle.cubes.specs.Given.{first}
+use Rattle.stored.specs.CubesInCode.{coversFrom}
 use Rattle.stored.proofs.First.{first-at, first-none}
 
 module _ (cubes b : List ℕ) (len n : ℕ) where

@@ -27,11 +27,6 @@ keptBytes len held b = tabulate len (λ i. keptByte (getD b i 0) (getD held i 0)
 unfoldable pub coversFrom : ℕ → List ℕ → List ℕ → ℕ → Bool
 coversFrom len cubes b at = every len (λ i. eqb (bitAnd (getD cubes (at + i) 0) (getD b i 0)) (getD cubes (at + i) 0))
 
--- the first number below n at which p holds, or n
-unfoldable pub first : ℕ → (ℕ → Bool) → ℕ
-first zero p = 0
-first (suc n) p = elim (p 0) [ true ↦ 0 | false ↦ suc (first n (λ i. p (suc i))) ]
-
 -- a working table with the constant and all switches X
 abbrev pub SwitchesX : Counts → List ℕ → Type 0
 SwitchesX c table = Begins table (low ∷ replicate (c .inputs) unknown)

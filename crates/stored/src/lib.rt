@@ -14,7 +14,8 @@ ghost use Rattle.cubes.specs.Run.{nextCube};
 ghost use Rattle.cubes.specs.Buffer.{cubeBytes, packCube, cubeOf};
 ghost use Rattle.cubes.specs.BufferInCode.{longestCube, IsCube};
 ghost use Rattle.cubes.specs.HeldInCode.{keptByte};
-ghost use Rattle.stored.specs.CubesInCode.{startFields, keptBytes, coversFrom, first, SwitchesX, Settled};
+ghost use Rattle.cubes.specs.Given.{first};
+ghost use Rattle.stored.specs.CubesInCode.{startFields, keptBytes, coversFrom, SwitchesX, Settled};
 
 // The record of a cube with the most latches.
 pub const LONGEST_CUBE: usize = 128;

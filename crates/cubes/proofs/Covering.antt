@@ -1,0 +1,61 @@
+-- The test of given cubes says that there is a cover: the first cube over the start, and for each cube the first over its next state. Where there is
+-- any cover the test passes, so a run's own cubes do. Assumes nothing.
+use mathlib.Core.Path.{_≡_, refl, sym, _∙_}
+use mathlib.Core.Bool.{true, false, false≢true, true≢false}
+use Prim.Native.Nat.{ℕ, _<_}
+use Rattle.three.specs.Lists.{every}
+use Rattle.three.specs.Cube.{Cube, subsumes}
+use Rattle.three.proofs.Lists.{every-at, every-all}
+use Rattle.circuit.specs.Circuit.{Circuit}
+use Rattle.circuit.specs.RulesInCode.{Passed}
+use Rattle.cubes.specs.Run.{nextCube, start, cubeAt, Found, at, nowhere, search, stops, run}
+use Rattle.cubes.specs.Given.{covered, nextCovered, coverTests}
+use Rattle.cubes.proofs.Steps.{Searched, searched, found, none-at-all}
+use Rattle.cubes.proofs.Cover.{Cover, chain-cover}
+use Rattle.cubes.proofs.Promise.{run-chain}
+
+-- the number of what a search found
+pub placeOf : Found → ℕ
+placeOf (at k) = k
+placeOf nowhere = 0
+
+module _ (c : Circuit) (cubes : ℕ → Cube) (n : ℕ) where
+  covered-found : (b : Cube) → covered c cubes n b ≡ true → (placeOf (search cubes n b) < n) × (subsumes (cubes (placeOf (search cubes n b))) b ≡ true)
+  unfolding covered placeOf
+  covered-found b e = go (search cubes n b) (searched cubes b n) e
+    where
+      go : (f : Found) → Searched cubes b n f → elim f [ at k ↦ true | nowhere ↦ false ] ≡ true → (placeOf f < n) × (subsumes (cubes (placeOf f)) b ≡ true)
+      go (at k) s e = found s
+      go nowhere s e = absurd (false≢true e)
+
+  found-covered : (b : Cube) (k : ℕ) → k < n → subsumes (cubes k) b ≡ true → covered c cubes n b ≡ true
+  unfolding covered
+  found-covered b k h e = go (search cubes n b) (searched cubes b n)
+    where
+      go : (f : Found) → Searched cubes b n f → elim f [ at k ↦ true | nowhere ↦ false ] ≡ true
+      go (at j) s = refl
+      go nowhere s = absurd (true≢false (sym e ∙ none-at-all s k h))
+
+  pub test-cover : Passed (coverTests c cubes n) → Cover c cubes n (placeOf (search cubes n (start c))) (λ k. placeOf (search cubes n (nextCube c (cubes k))))
+  unfolding coverTests nextCovered
+  test-cover p = record {
+    starts = covered-found (start c) (p .0);
+    follows = λ k h. covered-found (nextCube c (cubes k)) (every-at n (nextCovered c cubes n) (p .1 .0) k h);
+  }
+
+  pub cover-test : {origin : ℕ} {follow : ℕ → ℕ} → Cover c cubes n origin follow → Passed (coverTests c cubes n)
+  unfolding coverTests nextCovered
+  cover-test cover =
+      let starts = cover .starts in
+      (found-covered (start c) _ (starts .0) (starts .1), (every-all n (nextCovered c cubes n) (λ k h. let there = cover .follows k h in found-covered (nextCube c (cubes k)) _ (there .0) (there .1)), tt))
+
+-- a cover is one by its n cubes alone
+pub cover-same : (c : Circuit) (f f′ : ℕ → Cube) (n : ℕ) → ((k : ℕ) → k < n → f k ≡ f′ k) → {origin : ℕ} {follow : ℕ → ℕ} → Cover c f n origin follow → Cover c f′ n origin follow
+cover-same c f f′ n same {origin} {follow} cover = record {
+  starts = let h = cover .starts in (h .0, rw (← same origin (h .0)) (h .1));
+  follows = λ k l. let h = cover .follows k l in (h .0, rw (← same (follow k) (h .0), ← same k l) (h .1));
+}
+
+-- a closed run's cubes pass
+pub run-passes : (c : Circuit) (w room n j : ℕ) → run c w room ≡ stops n j → Passed (coverTests c (cubeAt c w) n)
+run-passes c w room n j closed = cover-test c (cubeAt c w) n (chain-cover (run-chain c w room n j closed))

@@ -1,0 +1,53 @@
+-- Covers of circuit S of the specification (9), computed: each number, the cube that 18 names, and the byte of the verdict's buffer, which held 255. Assumes nothing.
+use mathlib.Core.Path.{_≡_, refl}
+use mathlib.Core.Bool.{cond}
+use mathlib.Core.List.{List, [], _∷_}
+use Prim.Native.Nat.{ℕ}
+use lib.Dec.{eqb}
+use Rattle.three.specs.Lists.{tabulate, every, adjust, over}
+use Rattle.three.specs.Value.{code, decode, both, inverse, ternary}
+use Rattle.three.specs.Cube.{alike, allows, subsumes, blank, agree, merged}
+use Rattle.three.specs.Record.{byteOf, byteAt, pack, pairs, pairAt, unpack, bad, leftover, sound}
+use Rattle.circuit.specs.Circuit.{signed, value, pass, settle, readings}
+use Rattle.circuit.specs.Refusal.{refusal, allHold, leftBy}
+use Rattle.circuit.specs.Table.{ceilingTests, several, kinds, width, rowTests, tableTests, circuitOf, wordTests, boardTests}
+use Rattle.cubes.specs.Run.{switchesUnknown, nextCube, lampsIn, startField, resets, start, search, merge, mergeFrom, verdict}
+use Rattle.cubes.specs.Buffer.{cubeBytes, cubeOf, soundCube, cubeIn, soundIn}
+use Rattle.cubes.specs.Call.{roomIn}
+use Rattle.cubes.specs.Given.{first, cubeTests, covered, nextCovered, coverTests, firstUncovered}
+use Rattle.sent.specs.Call.{SentGiven, circuitIn, cubesIn, sentTests, verdictFields}
+
+-- S, with these cubes
+abbrev sends : List ℕ → ℕ → SentGiven
+sends cubes n = record {
+  counts = record { inputs = 0; latches = 2; lamps = 1; gates = 1 };
+  table = 4 ∷ 0 ∷ 2 ∷ 1 ∷ 6 ∷ 4 ∷ 2 ∷ [];
+  cubes = cubes;
+  n = n;
+  verdict = 255 ∷ [];
+}
+
+unfoldable pub answered : SentGiven → List ℕ
+unfolding tabulate every adjust over code decode both inverse ternary alike allows subsumes blank agree merged byteOf byteAt pack pairs pairAt unpack bad leftover sound signed value pass settle readings refusal allHold leftBy ceilingTests several kinds width rowTests tableTests circuitOf wordTests boardTests switchesUnknown nextCube lampsIn startField resets start search merge mergeFrom verdict cubeBytes cubeOf soundCube cubeIn soundIn roomIn first cubeTests covered nextCovered coverTests firstUncovered circuitIn cubesIn sentTests verdictFields
+answered g =
+    let number : ℕ = refusal (sentTests g) in
+    number ∷ cond (eqb number 18) (firstUncovered (circuitIn g) (cubesIn g) (g .n)) 0 ∷ leftBy number (over (pack (verdictFields g)) (g .verdict)) (g .verdict)
+
+-- its two cubes in the other order, with a third that is never met, doubled, and all states: accepted, and the last judges nothing
+pub accepts : (answered (sends (0x90 ∷ 0x60 ∷ []) 2) ≡ 0 ∷ 0 ∷ 0x40 ∷ [])
+    × (answered (sends (0x90 ∷ 0x50 ∷ 0x60 ∷ []) 3) ≡ 0 ∷ 0 ∷ 0x40 ∷ [])
+    × (answered (sends (0x60 ∷ 0x60 ∷ 0x90 ∷ 0xFF ∷ []) 3) ≡ 0 ∷ 0 ∷ 0x40 ∷ [])
+    × (answered (sends (0x00 ∷ []) 1) ≡ 0 ∷ 0 ∷ 0x00 ∷ [])
+unfolding answered
+accepts = (refl, refl, refl, refl)
+
+-- the start alone, whose next state is not there; the same of the third cube; the start missing, and no cube at all; a pair 11, and a leftover bit, before 17; more cubes than there are bytes
+pub refuses : (answered (sends (0x60 ∷ []) 1) ≡ 18 ∷ 0 ∷ 255 ∷ [])
+    × (answered (sends (0x60 ∷ 0x90 ∷ 0x80 ∷ 0x20 ∷ []) 3) ≡ 18 ∷ 2 ∷ 255 ∷ [])
+    × (answered (sends (0x90 ∷ []) 1) ≡ 17 ∷ 0 ∷ 255 ∷ [])
+    × (answered (sends (0x00 ∷ []) 0) ≡ 17 ∷ 0 ∷ 255 ∷ [])
+    × (answered (sends (0x90 ∷ 0xC0 ∷ []) 2) ≡ 14 ∷ 0 ∷ 255 ∷ [])
+    × (answered (sends (0x90 ∷ 0x61 ∷ []) 2) ≡ 14 ∷ 0 ∷ 255 ∷ [])
+    × (answered (sends (0xFF ∷ []) 2) ≡ 10 ∷ 0 ∷ 255 ∷ [])
+unfolding answered
+refuses = (refl, refl, refl, refl, refl, refl, refl)
