@@ -92,16 +92,17 @@ pub next-counted : (c : Counts) (words : List ℕ) (v : Cube) → length (nextCu
 unfolding nextCube
 next-counted c words v = next-sized ternary (circuitOf c words) _ _ ∙ latches-counted c words
 
+pub verdict-sized : (c : Counts) (words : List ℕ) (cubes : ℕ → Cube) (n : ℕ) → length (verdict (circuitOf c words) cubes n) ≡ c .lamps
+unfolding verdict
+verdict-sized c words cubes n =
+    mergeFrom-sized _ _ (c .lamps) (λ k. lamps-counted c words _) 0 (length-replicate (length (circuitOf c words .lamps)) _ ∙ literals-counted c words) n
+
 module _ (c : Counts) (words : List ℕ) (w : ℕ) where
   abbrev circuit : Circuit
   circuit = circuitOf c words
 
   pub cubes-sized : (k : ℕ) → length (cubeAt circuit w k) ≡ c .latches
   cubes-sized k = cube-sized circuit w k ∙ latches-counted c words
-
-  pub verdict-sized : (n : ℕ) → length (verdict circuit (cubeAt circuit w) n) ≡ c .lamps
-  unfolding verdict
-  verdict-sized n = mergeFrom-sized _ _ (c .lamps) (λ k. lamps-counted c words _) 0 (length-replicate (length (circuit .lamps)) _ ∙ literals-counted c words) n
 
   pub settled-sized : (n j : ℕ) → length (settled circuit (cubeAt circuit w) n j) ≡ c .latches
   unfolding settled

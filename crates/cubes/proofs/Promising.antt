@@ -45,16 +45,16 @@ number-says full e h = (e, refl)
 
 module _ (g : RunGiven) (r : RunAnswer) (cubes verdict′ settled′ : List ℕ) (runs : Runs g r cubes verdict′ settled′) where
   module _ (done : r .number ≡ 0) where
-    says : (refusedBy g ≡ 0) × (hasStopped (outcomeIn g) ≡ true)
+    pub says : (refusedBy g ≡ 0) × (hasStopped (outcomeIn g) ≡ true)
     says = zero-says (refusedBy g) (outcomeIn g) (sym done ∙ runs .answers)
 
-    taken : {A : Type 0} (new old : A) → leftBy (refusedBy g) new old ≡ new
+    pub taken : {A : Type 0} (new old : A) → leftBy (refusedBy g) new old ≡ new
     taken new old = sym (accepted-new (refusedBy g) new old (says .0))
 
     written : {A : Type 0} (new old : A) → leftBy (r .number) new old ≡ new
     written new old = sym (accepted-new (r .number) new old done)
 
-    n-is : r .cubes ≡ cubesIn g
+    pub n-is : r .cubes ≡ cubesIn g
     n-is = runs .counts ∙ taken _ _
 
     j-is : r .back ≡ backIn g
@@ -68,7 +68,7 @@ module _ (g : RunGiven) (r : RunAnswer) (cubes verdict′ settled′ : List ℕ)
     unfolding cubesIn backIn outcomeIn
     below = rw (n-is, j-is) (stopped-within (circuitIn g) (g .w) (roomIn (g .counts) (g .cubes)) (says .1) .0)
 
-    cube-is : (k : ℕ) → k < r .cubes → cubeAt (circuitIn g) (g .w) k ≡ cubeIn (g .counts .latches) cubes k
+    pub cube-is : (k : ℕ) → k < r .cubes → cubeAt (circuitIn g) (g .w) k ≡ cubeIn (g .counts .latches) cubes k
     unfolding circuitIn
     cube-is k h =
         sym (cube-in (g .counts) (g .table) (g .w) (g .cubes) (r .cubes) cubes
@@ -78,7 +78,7 @@ module _ (g : RunGiven) (r : RunAnswer) (cubes verdict′ settled′ : List ℕ)
     unfolding verdictFields circuitIn
     verdict-is =
         ap (unpack (g .counts .lamps)) (runs .fills-verdict ∙ written _ _)
-        ∙ unpack-over (g .counts .lamps) (verdictFields g) (g .verdict) (verdict-sized (g .counts) (g .table) (g .w) (cubesIn g))
+        ∙ unpack-over (g .counts .lamps) (verdictFields g) (g .verdict) (verdict-sized (g .counts) (g .table) (cubeAt (circuitIn g) (g .w)) (cubesIn g))
         ∙ ap (verdict (circuitIn g) (cubeAt (circuitIn g) (g .w))) (sym n-is)
 
     pub settled-is : unpack (g .counts .latches) settled′ ≡ settled (circuitIn g) (cubeAt (circuitIn g) (g .w)) (r .cubes) (r .back)

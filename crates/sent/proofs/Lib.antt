@@ -1,0 +1,4 @@
+pub mod Refusing
+pub mod Promising
+pub mod Determined
+pub mod Own
