@@ -10,6 +10,7 @@ pub mod Covering
 pub mod Pairs
 pub mod StoredCube
 pub mod Storing
+pub mod Given
 pub mod Merging
 pub mod Buffered
 pub mod Promising

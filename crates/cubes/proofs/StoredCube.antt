@@ -56,6 +56,10 @@ module _ (latches : ℕ) where
     unfolding cubeBytes soundCube IsCube
     sound-cube fits good = record { fits = fits; good = good }
 
+    pub cube-judged : sound latches bytes ≡ soundCube latches bytes
+    unfolding soundCube
+    cube-judged = refl
+
     pub cube-is-sound : IsCube latches bytes → soundCube latches bytes ≡ true
     unfolding soundCube IsCube
     cube-is-sound is = is .good

@@ -12,6 +12,10 @@ use Rattle.cubes.specs.Buffer.{cubeBytes, packCube, cubeIn, packCubes}
 use Rattle.cubes.specs.BufferInCode.{IsCube}
 use Rattle.cubes.proofs.StoredCube.{cube-at, cube-long, cube-read, cube-sound}
 
+-- where a cube stands
+pub cube-place : (n len k size : ℕ) → k < n → n * len ≤ size → k * len + len ≤ size
+cube-place n len k size h l = omega (arith, mul-le-mul-right len h, suc-mul k len)
+
 -- ---- the records of cubes 0 to n − 1
 
 module _ (size : ℕ) where

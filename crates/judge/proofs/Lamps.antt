@@ -2,7 +2,7 @@
 use mathlib.Core.Path.{_≡_, sym, ap, _∙_}
 use mathlib.Core.List.{List}
 use Prim.Native.Nat.{ℕ, _+_, _*_, _-_, _<_, _≤_}
-use native.Mathlib.Nat.{zero-mul, suc-mul, sub-zero, mul-le-mul-right}
+use native.Mathlib.Nat.{zero-mul, sub-zero}
 use native.Mathlib.Omega.{arith}
 use lib.ListN.{length, drop, replicate}
 use Rattle.three.specs.Lists.{over}
@@ -19,13 +19,10 @@ use Rattle.cubes.specs.Run.{lampsIn, mergeFrom, verdict}
 use Rattle.cubes.specs.BufferInCode.{IsCube}
 use Rattle.cubes.specs.Buffer.{cubeOf, cubeIn}
 use Rattle.cubes.proofs.StoredCube.{cube-at}
+use Rattle.cubes.proofs.Storing.{cube-place}
 use Rattle.judge.specs.JudgeInCode.{Judgeable}
 use Rattle.cubes.proofs.Merging.{length-over, Merged, merged-first, merged-next, merged-last}
 use Rattle.cubes.proofs.Buffered.{lamps-counted}
-
--- where a cube stands
-pub place-below : (n len k size : ℕ) → k < n → n * len ≤ size → k * len + len ≤ size
-place-below n len k size h l = omega (arith, mul-le-mul-right len h, suc-mul k len)
 
 module _ (c : Counts) (words cubes : List ℕ) where
   -- the lamps in cube number k
@@ -47,7 +44,7 @@ module _ (c : Counts) (words : List ℕ) (len n : ℕ) (cubes : List ℕ) (j : J
   few-lamps = omega (arith, j .legal .bounded .lamps)
 
   pub lamp-place : (k : ℕ) → k < n → k * len ≤ length cubes
-  lamp-place k h = omega (arith, place-below n len k (length cubes) h (j .fits))
+  lamp-place k h = omega (arith, cube-place n len k (length cubes) h (j .fits))
 
   abbrev circuit : Circuit
   circuit = circuitOf c words

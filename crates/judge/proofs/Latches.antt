@@ -14,11 +14,11 @@ use Rattle.three.specs.RecordInCode.{IsRecord}
 use Rattle.three.proofs.Pack.{length-pack}
 use Rattle.cubes.specs.Buffer.{cubeIn}
 use Rattle.cubes.proofs.StoredCube.{cube-bytes, cube-fields, cube-record as is-record, cube-in-sized, cube-repacked, cube-at}
+use Rattle.cubes.proofs.Storing.{cube-place}
 use Rattle.judge.specs.JudgeInCode.{Settleable, settledFrom}
 use Rattle.stored.proofs.Reaching.{part-tail}
 use Rattle.cubes.proofs.Merging.{Merged, merged-first, merged-next, merged-last}
 use Rattle.three.proofs.Loops.{Stored, stored-next}
-use Rattle.judge.proofs.Lamps.{place-below}
 
 -- a cube copied
 pub copy-next : (cubes : List ℕ) (at len : ℕ) (out₀ out : List ℕ) (i : ℕ) → at + len ≤ length cubes → len ≤ length out₀ → Stored out₀ 0 (drop at cubes) len out i → i < len
@@ -34,7 +34,7 @@ module _ (latches : ℕ) (cubes : List ℕ) where
 
 module _ (latches len n j : ℕ) (cubes : List ℕ) (s : Settleable latches len n j cubes) where
   pub latch-place : (k : ℕ) → k < n → k * len + len ≤ length cubes
-  latch-place k h = place-below n len k (length cubes) h (s .fits)
+  latch-place k h = cube-place n len k (length cubes) h (s .fits)
 
   pub cube-record : (k : ℕ) → k < n → IsRecord latches (take (length cubes - k * len) (drop (k * len) cubes))
   cube-record k h = rw part-tail (is-record _ _ (s .cube k h))

@@ -12,11 +12,14 @@ ghost use Rattle.circuit.specs.RulesInCode.{Legal};
 ghost use Rattle.cubes.specs.Run.{lampsIn, verdict as verdictOf};
 ghost use Rattle.cubes.specs.Buffer.{cubeBytes, cubeOf, cubeIn};
 ghost use Rattle.cubes.specs.BufferInCode.{IsCube};
-ghost use Rattle.stored.specs.CubesInCode.{SwitchesX};
+ghost use Rattle.stored.specs.CubesInCode.{SwitchesX, Settled};
 ghost use Rattle.judge.specs.JudgeInCode.{settledFrom, Judgeable, Settleable, Judgement};
 
-// The record of the lamps in the cube at byte `at`.
-fn lamps_at(
+// The record of the most lamps.
+pub const LONGEST_LAMPS: usize = 16;
+
+// The record of the lamps in the cube at byte `at`, from a pass over it.
+pub fn lamps_at(
     counts: Counts,
     table: &[u16],
     cubes: &[u8],
@@ -25,7 +28,7 @@ fn lamps_at(
     out: &mut [u8],
 )
     requires { ⌜ Legal counts (now table) × (at ≤ length (now cubes)) × IsCube (counts .latches) (drop at (now cubes)) × SwitchesX counts (now values) × (bytesFor (counts .lamps) ≤ length (now out)) ⌝ }
-    ensures { λ _. ⌜ SwitchesX counts (now (values .exit)) × (now (out .exit) ≡ over (pack (lampsIn (circuitOf counts (now (table .entry))) (cubeOf (counts .latches) (drop at (now (cubes .entry)))))) (now (out .entry))) ⌝ }
+    ensures { λ _. ⌜ Settled counts (now (table .entry)) (cubeOf (counts .latches) (drop at (now (cubes .entry)))) (now (values .exit)) × (now (out .exit) ≡ over (pack (lampsIn (circuitOf counts (now (table .entry))) (cubeOf (counts .latches) (drop at (now (cubes .entry)))))) (now (out .entry))) ⌝ }
 {
     stored::settle_cube(counts, table, cubes, at, values);
     let first = circuit::literals_at(counts);
@@ -46,15 +49,15 @@ fn judge_lamps(
 {
     let mut values = pass::fresh_values();
     lamps_at(counts, table, cubes, 0, &mut values, verdict);
-    let mut lamps = [0u8; 16];
+    let mut lamps = [0u8; LONGEST_LAMPS];
     for k in 1..n {
         lamps_at(counts, table, cubes, k * len, &mut values, &mut lamps);
         three::agree(verdict, &lamps, counts.lamps);
     }
 }
 
-// The cube at byte `at`, into the front of `out`.
-fn copy_cube(cubes: &[u8], at: usize, len: usize, out: &mut [u8])
+// A record's bytes from byte `at` on, into the front of `out`.
+pub fn copy_record(cubes: &[u8], at: usize, len: usize, out: &mut [u8])
     requires { ⌜ (at + len ≤ length (now cubes)) × (len ≤ length (now out)) ⌝ }
     ensures { λ _. ⌜ now (out .exit) ≡ paste (now (out .entry)) 0 (drop at (now (cubes .entry))) len ⌝ }
 {
@@ -68,7 +71,7 @@ fn settle_latches(latches: usize, cubes: &[u8], len: usize, n: usize, j: usize, 
     requires { ⌜ Settleable latches len n j (now cubes) × (bytesFor latches ≤ length (now settled)) ⌝ }
     ensures { λ _. ⌜ now (settled .exit) ≡ over (pack (settledFrom latches (now (cubes .entry)) n j)) (now (settled .entry)) ⌝ }
 {
-    copy_cube(cubes, j * len, len, settled);
+    copy_record(cubes, j * len, len, settled);
     for k in j + 1..n {
         three::agree(settled, &cubes[k * len..], latches);
     }

@@ -2,7 +2,7 @@
 use mathlib.Core.Path.{_≡_, sym, ap, _∙_}
 use mathlib.Core.Bool.{true}
 use mathlib.Core.List.{List}
-use Prim.Native.Nat.{ℕ, _*_, _<_, _≤_}
+use Prim.Native.Nat.{ℕ, _*_, _≤_}
 use native.Mathlib.Nat.{mul-le-mul-right, div-mul-le-self}
 use native.Mathlib.Omega.{arith}
 use lib.ListN.{length}
@@ -27,7 +27,8 @@ use Rattle.cubes.proofs.Covering.{test-cover, cover-test, cover-same, run-passe
 use Rattle.cubes.proofs.Promising.{says, taken, n-is, outcome-is, cube-is, verdict-is}
 use Rattle.sent.specs.declared.CoverAnswer.{CoverAnswer}
 use Rattle.sent.specs.Call.{SentGiven, circuitIn, cubesIn, sentTests, verdictFields, Sent}
-use Rattle.sent.proofs.Refusing.{cubes-pass, sent-passes}
+use Rattle.cubes.proofs.Given.{cubes-pass}
+use Rattle.sent.proofs.Refusing.{sent-passes}
 use Rattle.sent.proofs.Promising.{verdict-is as sent-verdict}
 
 module _ (g : RunGiven) (r : RunAnswer) (cubes verdict settled : List ℕ) (runs : Runs g r cubes verdict settled) (closed : r .number ≡ 0) where

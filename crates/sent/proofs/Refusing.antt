@@ -1,5 +1,5 @@
--- The refusals of a sent cover, block by block and in order, and what holds where none is given. Assumes nothing.
-use mathlib.Core.Path.{_≡_, sym}
+-- The refusals of a sent cover in order, and what holds where none is given. Assumes nothing.
+use mathlib.Core.Path.{_≡_}
 use mathlib.Core.Bool.{true, false}
 use mathlib.Core.List.{List, [], _∷_, _++_}
 use Prim.Native.Nat.{ℕ, _<_, _≤_}
@@ -9,7 +9,6 @@ use lib.Dec.{leb}
 use lib.ListN.{length}
 use Rattle.three.specs.Lists.{every}
 use Rattle.three.specs.Record.{bytesFor}
-use Rattle.circuit.specs.declared.Counts.{Counts}
 use Rattle.circuit.specs.Refusal.{Test, _or_, refusal}
 use Rattle.circuit.specs.Table.{boardTests}
 use Rattle.circuit.specs.RulesInCode.{Passed, Legal}
@@ -18,33 +17,9 @@ use Rattle.circuit.proofs.Legality.{board-numbered, board-legal}
 use Rattle.cubes.specs.Run.{start}
 use Rattle.cubes.specs.Buffer.{soundIn}
 use Rattle.cubes.specs.Call.{roomIn}
+use Rattle.cubes.proofs.Given.{cubes-numbered, cubes-given}
 use Rattle.cubes.specs.Given.{cubeTests, covered, nextCovered, coverTests}
 use Rattle.sent.specs.Call.{SentGiven, circuitIn, cubesIn, sentTests}
-
--- ---- 10 for the cubes, 14
-
-module _ (c : Counts) (cubes : List ℕ) (n : ℕ) where
-  pub cubes-short : roomIn c cubes < n → 10 ≡ refusal (cubeTests c cubes n)
-  unfolding cubeTests
-  cubes-short h = stops _ _ (lt-leb n (roomIn c cubes) h)
-
-  pub cubes-bad : n ≤ roomIn c cubes → every n (soundIn (c .latches) cubes) ≡ false → 14 ≡ refusal (cubeTests c cubes n)
-  unfolding cubeTests
-  cubes-bad l h = past _ _ (le-leb n (roomIn c cubes) l) (stops _ _ h)
-
-  pub cubes-pass : n ≤ roomIn c cubes → every n (soundIn (c .latches) cubes) ≡ true → 0 ≡ refusal (cubeTests c cubes n)
-  unfolding cubeTests
-  cubes-pass l h = past _ _ (le-leb n (roomIn c cubes) l) (past _ _ h none)
-
-  pub cubes-numbered : Numbered (cubeTests c cubes n)
-  unfolding cubeTests
-  cubes-numbered = omega arith
-
-  pub cubes-given : 0 ≡ refusal (cubeTests c cubes n) → (n ≤ roomIn c cubes) × (every n (soundIn (c .latches) cubes) ≡ true)
-  unfolding cubeTests
-  cubes-given e = let p = passes (cubeTests c cubes n) cubes-numbered e in (leb-true n (roomIn c cubes) (p .0), p .1 .0)
-
--- ---- all of them
 
 module _ (g : SentGiven) where
   -- before the cubes are looked into: 3, 10 for the table, 11, 10 for the cubes, 14

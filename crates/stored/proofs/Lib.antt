@@ -3,3 +3,4 @@ pub mod Keeping
 pub mod First
 pub mod Searching
 pub mod Reaching
+pub mod Judged

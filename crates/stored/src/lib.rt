@@ -5,16 +5,17 @@ ghost use mathlib.Core.Path.{_≡_};
 ghost use Prim.Native.Nat.{_+_, _*_, _-_, _<_, _≤_};
 ghost use lib.ListN.{length, getD, drop};
 ghost use lib.Seq.{paste};
-ghost use Rattle.three.specs.Lists.{over};
+ghost use Rattle.three.specs.Lists.{every, over};
 ghost use Rattle.three.specs.Value.{unknown, code};
 ghost use Rattle.three.specs.Record.{byteAt};
+ghost use Rattle.circuit.specs.Refusal.{refusal};
 ghost use Rattle.circuit.specs.Table.{circuitOf};
-ghost use Rattle.circuit.specs.RulesInCode.{Legal};
+ghost use Rattle.circuit.specs.RulesInCode.{Bounded, Legal};
 ghost use Rattle.cubes.specs.Run.{nextCube};
-ghost use Rattle.cubes.specs.Buffer.{cubeBytes, packCube, cubeOf};
+ghost use Rattle.cubes.specs.Buffer.{cubeBytes, packCube, cubeOf, soundIn};
 ghost use Rattle.cubes.specs.BufferInCode.{longestCube, IsCube};
 ghost use Rattle.cubes.specs.HeldInCode.{keptByte};
-ghost use Rattle.cubes.specs.Given.{first};
+ghost use Rattle.cubes.specs.Given.{first, cubeTests};
 ghost use Rattle.stored.specs.CubesInCode.{startFields, keptBytes, coversFrom, SwitchesX, Settled};
 
 // The record of a cube with the most latches.
@@ -82,6 +83,35 @@ pub fn store_kept(b: &[u8], held: [u8; LONGEST_CUBE], len: usize, out: &mut [u8]
     for i in 0..len {
         out[at + i] = kept(b[i], held[i]);
     }
+}
+
+// 14 refuses none of the first n cubes.
+fn cubes_sound(latches: usize, cubes: &[u8], n: usize) -> bool
+    requires { ⌜ (latches ≤ 512) × (n * cubeBytes latches ≤ length (now cubes)) ⌝ }
+    ensures { λ r. ⌜ r ≡ every n (soundIn latches (now (cubes .entry))) ⌝ }
+{
+    let len = cube_bytes(latches);
+    let known = three::known_table();
+    for k in 0..n {
+        if !three::sound(&known, &cubes[k * len..], latches) {
+            return false;
+        }
+    }
+    true
+}
+
+// The refusals of n cubes that are given, in order: 10, 14; 0 for none.
+pub fn cubes_refusal(counts: Counts, cubes: &[u8], n: usize) -> u32
+    requires { ⌜ Bounded counts ⌝ }
+    ensures { λ r. ⌜ r ≡ refusal (cubeTests counts (now (cubes .entry)) n) ⌝ }
+{
+    if n > cubes.len() / cube_bytes(counts.latches) {
+        return 10;
+    }
+    if !cubes_sound(counts.latches, cubes, n) {
+        return 14;
+    }
+    0
 }
 
 // One pass over the cube at byte `at`, with all switches X.

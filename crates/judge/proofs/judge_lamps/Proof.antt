@@ -4,6 +4,7 @@ use Prim.Native.Nat.{_-_, _≤_}
 use lib.ListN.{length}
 use Rattle.pass.proofs.Values.{fresh-begins}
 use Rattle.stored.specs.CubesInCode.{SwitchesX}
+use Rattle.stored.proofs.Reaching.{ready-again}
 use Rattle.cubes.proofs.Merging.{merged-record, merged-length}
 use Rattle.judge.proofs.Lamps.{Judged, first-cube, few-lamps, lamp-place, judged-first, lamps-record, lamps-length, judged-next, judged-last}
 use native.Mathlib.Omega.{arith}
@@ -26,7 +27,7 @@ loop-holds : tie.Need-loop-holds Inv-loop μ-loop
 loop-holds c =
     let pre = c .before .before .before .before .before .before .before .before .before .pre in
     let lit = c .before .before .lamps-at .ensures in
-    (lit .0, judged-first _ _ _ _ _ (pre .0) _ (pre .1) (lit .1), refl, pre .0 .some)
+    (ready-again _ _ _ _ (lit .0), judged-first _ _ _ _ _ (pre .0) _ (pre .1) (lit .1), refl, pre .0 .some)
 
 mul-lamps-at : tie.Need-mul-lamps-at Inv-loop μ-loop
 mul-lamps-at c =
@@ -64,7 +65,7 @@ loop-again c =
     let inv = at .loop .inv in
     let read = c .before .before .before .before .before .before .lamps-at2 .ensures in
     let lamps = at .loop .lamps in
-    (read .0, judged-next _ _ _ _ _ (pre .0) _ lamps (inv .2) (read .1) (inv .1) (c .before .before .agree .ensures), lamps-length _ _ _ _ _ (pre .0) _ lamps (inv .2) (read .1), omega (arith, c .before .before .before .before .before .before .before .before .before .loop-test .taken))
+    (ready-again _ _ _ _ (read .0), judged-next _ _ _ _ _ (pre .0) _ lamps (inv .2) (read .1) (inv .1) (c .before .before .agree .ensures), lamps-length _ _ _ _ _ (pre .0) _ lamps (inv .2) (read .1), omega (arith, c .before .before .before .before .before .before .before .before .before .loop-test .taken))
 
 returns : tie.Need-returns Inv-loop μ-loop
 returns c =

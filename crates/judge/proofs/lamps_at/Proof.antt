@@ -2,7 +2,7 @@
 use Rattle.three.proofs.Filling.{over-fields}
 use Rattle.cubes.proofs.StoredCube.{cube-of-sized}
 use Rattle.pass.proofs.Settling.{lamps-readable}
-use Rattle.stored.proofs.Reaching.{ready-again, lamps-reached}
+use Rattle.stored.proofs.Reaching.{lamps-reached}
 use native.Mathlib.Omega.{arith}
 use borrow.Author.Needs.{needs}
 use Rattle.judge.proofs.lamps_at.Statement.{statement}
@@ -17,7 +17,7 @@ returns : tie.Need-returns
 returns c =
     let pre = c .before .before .before .before .before .before .before .before .before .before .before .pre in
     let settled = c .before .before .before .before .before .before .settle-cube .ensures in
-    (ready-again _ _ _ _ settled, over-fields _ (rw (c .before .before .before .before .before .literals-at .ensures) at (c .before .before .store .ensures)) (lamps-reached _ _ (pre .0) _ (cube-of-sized _ _) _ settled))
+    (settled, over-fields _ (rw (c .before .before .before .before .before .literals-at .ensures) at (c .before .before .store .ensures)) (lamps-reached _ _ (pre .0) _ (cube-of-sized _ _) _ settled))
 
 pub lamps-at-spec : {M : Type 1} → statement M
 lamps-at-spec =

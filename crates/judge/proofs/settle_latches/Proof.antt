@@ -13,14 +13,14 @@ Inv-loop latches cubes len n j settled₀ k₀ settled k = Settled latches cubes
 abbrev μ-loop : tie.MeasureT-loop
 μ-loop latches cubes len n j settled₀ k₀ settled k = n - k
 
-mul-copy-cube : tie.Need-mul-copy-cube Inv-loop μ-loop
-mul-copy-cube c =
+mul-copy-record : tie.Need-mul-copy-record Inv-loop μ-loop
+mul-copy-record c =
     let start = c .before .before in
     let pre = start .pre in
     omega (arith, latch-place _ _ _ _ _ (pre .0) _ (pre .0 .below), start .good)
 
-copy-cube-requires : tie.Need-copy-cube-requires Inv-loop μ-loop
-copy-cube-requires c κs =
+copy-record-requires : tie.Need-copy-record-requires Inv-loop μ-loop
+copy-record-requires c κs =
     let start = c .before .before .before in
     let pre = start .pre in
     (latch-place _ _ _ _ _ (pre .0) _ (pre .0 .below), omega (arith, pre .0 .size, pre .1, cube-bytes (start .args .latches)))
@@ -29,7 +29,7 @@ loop-holds : tie.Need-loop-holds Inv-loop μ-loop
 loop-holds c =
     let known = c .before .before .before .before .before in
     let pre = known .before .pre in
-    (settled-first _ _ _ _ _ (pre .0) _ (pre .1) (λ i. known .shared-slice-known .given i .fits) (c .before .before .copy-cube .ensures), omega arith)
+    (settled-first _ _ _ _ _ (pre .0) _ (pre .1) (λ i. known .shared-slice-known .given i .fits) (c .before .before .copy-record .ensures), omega arith)
 
 mul-agree : tie.Need-mul-agree Inv-loop μ-loop
 mul-agree c =
@@ -63,7 +63,7 @@ returns c =
     let at = c .before in
     let known = at .before .before .before .before .before .before in
     let pre = known .before .pre in
-    settled-last _ _ _ _ _ (pre .0) _ (pre .1) (λ i. known .shared-slice-known .given i .fits) (at .before .before .before .copy-cube .ensures) (at .loop .inv .0) (omega arith)
+    settled-last _ _ _ _ _ (pre .0) _ (pre .1) (λ i. known .shared-slice-known .given i .fits) (at .before .before .before .copy-record .ensures) (at .loop .inv .0) (omega arith)
 
 pub settle-latches-spec : {M : Type 1} → statement M
 settle-latches-spec =
@@ -71,8 +71,8 @@ settle-latches-spec =
     (tie.spec
     Inv-loop
     μ-loop
-    mul-copy-cube
-    copy-cube-requires
+    mul-copy-record
+    copy-record-requires
     (λ c. omega arith)
     loop-holds
     mul-agree

@@ -1,11 +1,11 @@
--- `judge::copy_cube` meets its contract: the bytes are copied in turn. Assumes nothing.
+-- `judge::copy_record` meets its contract: the bytes are copied in turn. Assumes nothing.
 use Prim.Native.Nat.{_-_}
 use lib.ListN.{drop}
 use Rattle.three.proofs.Loops.{Stored, stored-first, stored-last}
 use Rattle.judge.proofs.Latches.{copy-next}
 use native.Mathlib.Omega.{arith}
-use Rattle.judge.proofs.copy_cube.Statement.{statement}
-use Rattle.judge.proofs.copy_cube.Tie as tie
+use Rattle.judge.proofs.copy_record.Statement.{statement}
+use Rattle.judge.proofs.copy_record.Tie as tie
 
 abbrev Inv-loop : tie.InvT-loop
 Inv-loop cubes at len out₀ i₀ out i = Stored out₀ 0 (drop at cubes) len out i
@@ -28,8 +28,8 @@ same-length c = c .before .loop .inv .long
 returns : tie.Need-returns Inv-loop μ-loop
 returns c = stored-last _ _ _ _ _ _ (c .before .loop .inv) (c .loop-test .left)
 
-pub copy-cube-spec : {M : Type 1} → statement M
-copy-cube-spec =
+pub copy-record-spec : {M : Type 1} → statement M
+copy-record-spec =
     tie.close
     (tie.spec
     Inv-loop

@@ -1,0 +1,32 @@
+-- `stored::cubes_refusal` meets its contract: its tests are made in the order of the list. Assumes nothing.
+use mathlib.Core.Path.{sym, _∙_}
+use native.Mathlib.Omega.{arith}
+use borrow.Author.Tests.{not-true, not-false}
+use Rattle.cubes.proofs.StoredCube.{some-bytes}
+use Rattle.cubes.proofs.Given.{cubes-short, cubes-bad, cubes-pass, cubes-fit, room-is}
+use borrow.Author.Needs.{needs}
+use Rattle.stored.proofs.cubes_refusal.Statement.{statement}
+use Rattle.stored.proofs.cubes_refusal.Tie as tie
+
+cube-bytes-requires : tie.Need-cube-bytes-requires
+cube-bytes-requires c κs = search needs
+
+div-if1 : tie.Need-div-if1
+div-if1 c = omega (arith, c .cube-bytes .ensures, some-bytes (c .before .before .args .counts .latches))
+
+returns : tie.Need-returns
+returns c = cubes-short _ _ _ (omega (arith, room-is (c .before .before .before .args .counts) (c .before .before .before .args .cubes .now) (c .before .cube-bytes .ensures)))
+
+cubes-sound-requires : tie.Need-cubes-sound-requires
+cubes-sound-requires c κs = (omega (arith, c .before .before .before .pre), cubes-fit (c .before .before .before .args .counts) (c .before .before .before .args .cubes .now) _ (omega (arith, room-is (c .before .before .before .args .counts) (c .before .before .before .args .cubes .now) (c .before .cube-bytes .ensures))))
+
+returns-2 : tie.Need-returns-2
+returns-2 c = cubes-bad _ _ _ (omega (arith, room-is (c .before .before .before .before .before .args .counts) (c .before .before .before .before .before .args .cubes .now) (c .before .before .before .cube-bytes .ensures))) (sym (c .before .cubes-sound .ensures) ∙ not-true _ (c .if2 .taken))
+
+returns-3 : tie.Need-returns-3
+returns-3 c = cubes-pass _ _ _ (omega (arith, room-is (c .before .before .before .before .before .args .counts) (c .before .before .before .before .before .args .cubes .now) (c .before .before .before .cube-bytes .ensures))) (sym (c .before .cubes-sound .ensures) ∙ not-false _ (c .if2 .left))
+
+pub cubes-refusal-spec : {M : Type 1} → statement M
+cubes-refusal-spec =
+    tie.close
+    (tie.spec cube-bytes-requires div-if1 returns cubes-sound-requires returns-2 returns-3)
