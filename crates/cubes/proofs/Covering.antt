@@ -2,7 +2,8 @@
 -- any cover the test passes, so a run's own cubes do. Assumes nothing.
 use mathlib.Core.Path.{_≡_, refl, sym, _∙_}
 use mathlib.Core.Bool.{true, false, false≢true, true≢false}
-use Prim.Native.Nat.{ℕ, _<_}
+use Prim.Native.Nat.{ℕ, _<_, _≤_}
+use native.Mathlib.Omega.{arith}
 use Rattle.three.specs.Lists.{every}
 use Rattle.three.specs.Cube.{Cube, subsumes}
 use Rattle.three.proofs.Lists.{every-at, every-all}
@@ -27,6 +28,9 @@ module _ (c : Circuit) (cubes : ℕ → Cube) (n : ℕ) where
       go : (f : Found) → Searched cubes b n f → elim f [ at k ↦ true | nowhere ↦ false ] ≡ true → (placeOf f < n) × (subsumes (cubes (placeOf f)) b ≡ true)
       go (at k) s e = found s
       go nowhere s e = absurd (false≢true e)
+
+  pub covered-some : (b : Cube) → covered c cubes n b ≡ true → 1 ≤ n
+  covered-some b e = omega (arith, covered-found b e .0)
 
   found-covered : (b : Cube) (k : ℕ) → k < n → subsumes (cubes k) b ≡ true → covered c cubes n b ≡ true
   unfolding covered

@@ -2,3 +2,6 @@ pub mod Refusing
 pub mod Promising
 pub mod Determined
 pub mod Own
+pub mod Walking
+pub mod Passing
+pub mod Calling

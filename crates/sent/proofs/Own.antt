@@ -12,7 +12,7 @@ use Rattle.three.proofs.Lists.{every-all}
 use Rattle.circuit.specs.Refusal.{refusal}
 use Rattle.circuit.specs.Table.{circuitOf, boardTests}
 use Rattle.circuit.specs.RulesInCode.{Passed}
-use Rattle.circuit.proofs.Refusals.{none-append}
+use Rattle.circuit.proofs.Refusals.{none-append, none-past}
 use Rattle.circuit.proofs.Legality.{board-numbered}
 use Rattle.cubes.specs.declared.RunAnswer.{RunAnswer}
 use Rattle.cubes.specs.Run.{cubeAt}
@@ -74,7 +74,7 @@ module _ (g : RunGiven) (r : RunAnswer) (cubes verdict settled : List ℕ) (runs
     own-accepted =
         let board = none-append (boardTests (g .counts) (g .table)) _ (board-numbered (g .counts) (g .table)) (sym (says g r cubes verdict settled runs closed .0)) .0 in
         let given = cubes-pass (g .counts) cubes (r .cubes) (rw long few) all-sound in
-        sent-passes (sends lent) board given (all-covered .0) (all-covered .1 .0) fits
+        sent-passes (sends lent) (none-past (boardTests (g .counts) (g .table)) _ (board-numbered (g .counts) (g .table)) board given) (all-covered .0) (all-covered .1 .0) fits
 
     module _ (q : CoverAnswer) (verdict′ : List ℕ) (sent : Sent (sends lent) q verdict′) where
       pub own-number : (q .number ≡ 0) × (q .cube ≡ 0)

@@ -13,7 +13,7 @@ use Rattle.cubes.proofs.Covering.{placeOf, test-cover}
 use Rattle.sent.specs.declared.CoverAnswer.{CoverAnswer}
 use Rattle.sent.specs.Call.{SentGiven, circuitIn, cubesIn, verdictFields, Sent}
 use Rattle.sent.specs.Promise.{Kept, Keeps}
-use Rattle.sent.proofs.Refusing.{accepted-sent}
+use Rattle.sent.proofs.Refusing.{accepted-covers}
 
 module _ (g : SentGiven) (r : CoverAnswer) (verdict′ : List ℕ) (sent : Sent g r verdict′) where
   module _ (done : r .number ≡ 0) where
@@ -32,7 +32,7 @@ module _ (g : SentGiven) (r : CoverAnswer) (verdict′ : List ℕ) (sent : Sent 
 
     sent-cover : Cover (circuitIn g) (cubesIn g) (g .n) origin follow
     unfolding origin follow
-    sent-cover = test-cover _ _ _ (accepted-sent g (sym done ∙ sent .answers) .covers)
+    sent-cover = test-cover _ _ _ (accepted-covers g (sym done ∙ sent .answers))
 
     sent-keeps : (e : Execution (circuitIn g)) → Kept g verdict′ e
     unfolding verdictFields

@@ -1,8 +1,141 @@
 // The public cover: cubes worked out elsewhere, sent with their table (specification, 5.11).
+use circuit::Counts;
+use judge::LONGEST_LAMPS;
+use pass::Values;
+use stored::LONGEST_CUBE;
+ghost use mathlib.Core.Path.{_≡_};
+ghost use Prim.Native.Nat.{_+_, _*_, _-_, _<_, _≤_};
+ghost use lib.ListN.{length, drop};
+ghost use Rattle.three.specs.Lists.{over};
+ghost use Rattle.three.specs.Record.{bytesFor, pack};
+ghost use Rattle.circuit.specs.Refusal.{refusal};
+ghost use Rattle.circuit.specs.Table.{circuitOf};
+ghost use Rattle.circuit.specs.RulesInCode.{Legal};
+ghost use Rattle.cubes.specs.Run.{nextCube, lampsIn, start as startOf};
+ghost use Rattle.cubes.specs.Buffer.{cubeBytes, cubeOf, cubeIn};
+ghost use Rattle.cubes.specs.BufferInCode.{IsCube, Cubes};
+ghost use Rattle.cubes.specs.Given.{covered};
+ghost use Rattle.stored.specs.CubesInCode.{SwitchesX};
+ghost use Rattle.sent.specs.Call.{Sent};
+ghost use Rattle.sent.specs.Promise.{Keeps};
+ghost use Rattle.sent.specs.SentInCode.{givenTests, Sendable, Walked};
+
+// The refusals before the cubes are looked into, in order: those of a circuit that is run, 10 for the cubes, 14; 0 for none.
+fn given_refusal(counts: Counts, table: &[u16], cubes: &[u8], n: usize) -> u32
+    ensures { λ r. ⌜ r ≡ refusal (givenTests counts (now (table .entry)) (now (cubes .entry)) n) ⌝ }
+{
+    let refused = table::board_refusal(counts, table);
+    if refused != 0 {
+        return refused;
+    }
+    stored::cubes_refusal(counts, cubes, n)
+}
+
+// The start lies inside one of the n cubes.
+fn start_inside(counts: Counts, table: &[u16], cubes: &[u8], n: usize) -> bool
+    requires { ⌜ Sendable counts (now table) (cubeBytes (counts .latches)) n (now cubes) ⌝ }
+    ensures { λ r. ⌜ r ≡ covered (circuitOf counts (now (table .entry))) (cubeIn (counts .latches) (now (cubes .entry))) n (startOf (circuitOf counts (now (table .entry)))) ⌝ }
+{
+    let mut start = [0u8; LONGEST_CUBE];
+    stored::store_start(table, counts.latches, &mut start);
+    let len = stored::cube_bytes(counts.latches);
+    stored::search(cubes, len, n, &start) < n
+}
+
+// One pass over the cube at byte `at`: its lamps into `lamps`; and its next state lies inside one of the n cubes.
+fn next_inside(
+    counts: Counts,
+    table: &[u16],
+    cubes: &[u8],
+    len: usize,
+    n: usize,
+    at: usize,
+    values: &mut Values,
+    lamps: &mut [u8],
+) -> bool
+    requires { ⌜ Sendable counts (now table) len n (now cubes) × (at ≤ length (now cubes)) × IsCube (counts .latches) (drop at (now cubes)) × SwitchesX counts (now values) × (bytesFor (counts .lamps) ≤ length (now lamps)) ⌝ }
+    ensures { λ r. ⌜ (r ≡ covered (circuitOf counts (now (table .entry))) (cubeIn (counts .latches) (now (cubes .entry))) n (nextCube (circuitOf counts (now (table .entry))) (cubeOf (counts .latches) (drop at (now (cubes .entry)))))) × SwitchesX counts (now (values .exit)) × (now (lamps .exit) ≡ over (pack (lampsIn (circuitOf counts (now (table .entry))) (cubeOf (counts .latches) (drop at (now (cubes .entry)))))) (now (lamps .entry))) ⌝ }
+{
+    judge::lamps_at(counts, table, cubes, at, values, lamps);
+    let mut next = [0u8; LONGEST_CUBE];
+    pass::store(values, table, 0, 2, counts.latches, &mut next);
+    stored::search(cubes, len, n, &next) < n
+}
+
+// The first of the n cubes whose next state lies inside none of them, or n; `verdict` then has what the lamps are in all of them.
+fn first_uncovered(
+    counts: Counts,
+    table: &[u16],
+    cubes: &[u8],
+    n: usize,
+    verdict: &mut [u8],
+) -> usize
+    requires { ⌜ Sendable counts (now table) (cubeBytes (counts .latches)) n (now cubes) × (1 ≤ n) × (bytesFor (counts .lamps) ≤ length (now verdict)) ⌝ }
+    ensures { λ r. ⌜ Walked counts (now (table .entry)) (now (cubes .entry)) n (now (verdict .entry)) r (now (verdict .exit)) ⌝ }
+{
+    let len = stored::cube_bytes(counts.latches);
+    let mut values = pass::fresh_values();
+    if !next_inside(counts, table, cubes, len, n, 0, &mut values, verdict) {
+        return 0;
+    }
+    let mut lamps = [0u8; LONGEST_LAMPS];
+    for k in 1..n {
+        if !next_inside(
+            counts,
+            table,
+            cubes,
+            len,
+            n,
+            k * len,
+            &mut values,
+            &mut lamps,
+        ) {
+            return k;
+        }
+        three::agree(verdict, &lamps, counts.lamps);
+    }
+    n
+}
 
 // The cube is the one that 18 names, and 0 with any other number.
 #[repr(C)]
 pub struct CoverAnswer {
     pub number: u32,
     pub cube: usize,
+}
+
+// The public cover. Nothing is relied on: any numbers and buffers may be handed in.
+pub fn cover(
+    counts: Counts,
+    table: &[u16],
+    cubes: &[u8],
+    n: usize,
+    verdict: &mut [u8],
+) -> CoverAnswer
+    ensures { λ r. ⌜ Sent (record { counts = counts; table = now (table .entry); cubes = now (cubes .entry); n = n; verdict = now (verdict .entry) }) r (now (verdict .exit)) × Keeps (record { counts = counts; table = now (table .entry); cubes = now (cubes .entry); n = n; verdict = now (verdict .entry) }) r (now (verdict .exit)) ⌝ }
+{
+    let number = given_refusal(counts, table, cubes, n);
+    if number != 0 {
+        return CoverAnswer { number, cube: 0 };
+    }
+    if !start_inside(counts, table, cubes, n) {
+        return CoverAnswer {
+            number: 17,
+            cube: 0,
+        };
+    }
+    let mut lamps = [0u8; LONGEST_LAMPS];
+    let cube = first_uncovered(counts, table, cubes, n, &mut lamps);
+    if cube < n {
+        return CoverAnswer { number: 18, cube };
+    }
+    let len = three::record_length(counts.lamps);
+    if verdict.len() < len {
+        return CoverAnswer {
+            number: 10,
+            cube: 0,
+        };
+    }
+    judge::copy_record(&lamps, 0, len, verdict);
+    CoverAnswer { number: 0, cube: 0 }
 }

@@ -22,6 +22,16 @@ unfolding first
 first-none zero p none = refl
 first-none (suc n) p none = rw (first, none 0 (omega arith)) (ap suc (first-none n (λ i. p (suc i)) (λ m l. none (suc m) (suc-le-suc l))))
 
+-- and back: where none is found it holds nowhere
+pub first-nowhere : (n : ℕ) (p : ℕ → Bool) → n ≤ first n p → (m : ℕ) → m < n → p m ≡ false
+unfolding first
+first-nowhere zero p h m l = absurd (not-suc-le-zero l)
+first-nowhere (suc n) p h zero l = by-test (p 0) (λ e. absurd (not-suc-le-zero (rw (first, e) at h))) (λ e. e)
+first-nowhere (suc n) p h (suc m) l =
+    by-test (p 0)
+    (λ e. absurd (not-suc-le-zero (rw (first, e) at h)))
+    (λ e. first-nowhere n (λ i. p (suc i)) (le-of-suc-le-suc (rw (first, e) at h)) m (le-of-suc-le-suc l))
+
 -- tests that agree below n
 pub first-ext : (n : ℕ) (p q : ℕ → Bool) → ((k : ℕ) → k < n → p k ≡ q k) → first n p ≡ first n q
 unfolding first

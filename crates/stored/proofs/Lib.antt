@@ -4,3 +4,4 @@ pub mod First
 pub mod Searching
 pub mod Reaching
 pub mod Judged
+pub mod Inside

@@ -68,13 +68,16 @@ module _ (c : Counts) (words : List ℕ) (legal : Legal c words) (state : Cube) 
   unfolding switchesUnknown circuitOf
   unknown-sized = length-replicate (c .inputs) unknown
 
+  pub next-packed : Settled c words state t → (d next : List ℕ) → next ≡ over (pack (literalValues (valuesOf t) words 0 2 (c .latches))) d → next ≡ over (packCube (nextCube circuit state)) d
+  unfolding nextCube
+  next-packed settled d next e =
+      e ∙ ap (λ (f : Cube). over (pack f) d) (next-stored c words legal (switchesUnknown circuit) state unknown-sized sized t settled) ∙ ap (λ (l : List ℕ). over l d) (sym (cube-pack _))
+
   pub reach-stored : Settled c words state t → (held d next b b′ : List ℕ) (len : ℕ) → len ≡ cubeBytes (c .latches)
       → next ≡ over (pack (literalValues (valuesOf t) words 0 2 (c .latches))) d → b′ ≡ paste b 0 (keptBytes len held next) len
       → b′ ≡ paste b 0 (keptBytes (cubeBytes (c .latches)) held (packCube (nextCube circuit state))) (cubeBytes (c .latches))
-  unfolding nextCube
   reach-stored settled held d next b b′ len el en eb =
-      let fields = next-stored c words legal (switchesUnknown circuit) state unknown-sized sized t settled in
-      let stored : next ≡ over (packCube (nextCube circuit state)) d = en ∙ ap (λ (f : Cube). over (pack f) d) fields ∙ ap (λ (l : List ℕ). over l d) (sym (cube-pack _)) in
+      let stored = next-packed settled d next en in
       let long : length (packCube (nextCube circuit state)) ≡ cubeBytes (c .latches) = cube-long _ (next-counted c words state) in
       eb ∙ rw (el, stored, kept-over (cubeBytes (c .latches)) held (packCube (nextCube circuit state)) d (omega arith))
 

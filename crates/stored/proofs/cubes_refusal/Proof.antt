@@ -15,16 +15,28 @@ div-if1 : tie.Need-div-if1
 div-if1 c = omega (arith, c .cube-bytes .ensures, some-bytes (c .before .before .args .counts .latches))
 
 returns : tie.Need-returns
-returns c = cubes-short _ _ _ (omega (arith, room-is (c .before .before .before .args .counts) (c .before .before .before .args .cubes .now) (c .before .cube-bytes .ensures)))
+returns c =
+    let start = c .before .before .before in
+    let room = room-is (start .args .counts) (start .args .cubes .now) (c .before .cube-bytes .ensures) in
+    cubes-short _ _ _ (omega (arith, room))
 
 cubes-sound-requires : tie.Need-cubes-sound-requires
-cubes-sound-requires c κs = (omega (arith, c .before .before .before .pre), cubes-fit (c .before .before .before .args .counts) (c .before .before .before .args .cubes .now) _ (omega (arith, room-is (c .before .before .before .args .counts) (c .before .before .before .args .cubes .now) (c .before .cube-bytes .ensures))))
+cubes-sound-requires c κs =
+    let start = c .before .before .before in
+    let room = room-is (start .args .counts) (start .args .cubes .now) (c .before .cube-bytes .ensures) in
+    (omega (arith, start .pre), cubes-fit (start .args .counts) (start .args .cubes .now) _ (omega (arith, room)))
 
 returns-2 : tie.Need-returns-2
-returns-2 c = cubes-bad _ _ _ (omega (arith, room-is (c .before .before .before .before .before .args .counts) (c .before .before .before .before .before .args .cubes .now) (c .before .before .before .cube-bytes .ensures))) (sym (c .before .cubes-sound .ensures) ∙ not-true _ (c .if2 .taken))
+returns-2 c =
+    let start = c .before .before .before .before .before in
+    let room = room-is (start .args .counts) (start .args .cubes .now) (c .before .before .before .cube-bytes .ensures) in
+    cubes-bad _ _ _ (omega (arith, room)) (sym (c .before .cubes-sound .ensures) ∙ not-true _ (c .if2 .taken))
 
 returns-3 : tie.Need-returns-3
-returns-3 c = cubes-pass _ _ _ (omega (arith, room-is (c .before .before .before .before .before .args .counts) (c .before .before .before .before .before .args .cubes .now) (c .before .before .before .cube-bytes .ensures))) (sym (c .before .cubes-sound .ensures) ∙ not-false _ (c .if2 .left))
+returns-3 c =
+    let start = c .before .before .before .before .before in
+    let room = room-is (start .args .counts) (start .args .cubes .now) (c .before .before .before .cube-bytes .ensures) in
+    cubes-pass _ _ _ (omega (arith, room)) (sym (c .before .cubes-sound .ensures) ∙ not-false _ (c .if2 .left))
 
 pub cubes-refusal-spec : {M : Type 1} → statement M
 cubes-refusal-spec =

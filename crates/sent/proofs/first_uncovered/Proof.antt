@@ -1,0 +1,179 @@
+-- `sent::first_uncovered` meets its contract: cube after cube is passed, or found uncovered, and its lamps are merged into those before. Assumes nothing.
+use Prim.Native.Nat.{_-_}
+use mathlib.Core.Path.{refl, sym}
+use native.Mathlib.Nat.{zero-mul}
+use borrow.Author.Tests.{not-true, not-false}
+use Rattle.pass.proofs.Values.{fresh-begins}
+use Rattle.cubes.proofs.Storing.{cube-place}
+use Rattle.sent.proofs.Walking.{of-length}
+use Rattle.sent.proofs.Passing.{Passing, begun-long, walked-none, passing-first, verdict-long, walked-part, lamps-long, both-records, passing-next, walked-all}
+use native.Mathlib.Omega.{arith}
+use Rattle.sent.proofs.first_uncovered.Statement.{statement}
+use Rattle.sent.proofs.first_uncovered.Tie as tie
+
+abbrev Inv-loop : tie.InvT-loop
+Inv-loop counts table cubes n verdict₀ len values₀ lamps₀ k₀ verdict values lamps k = Passing counts table len n cubes verdict₀ verdict values lamps k
+
+abbrev μ-loop : tie.MeasureT-loop
+μ-loop counts table cubes n verdict₀ len values₀ lamps₀ k₀ verdict values lamps k = n - k
+
+cube-bytes-requires : tie.Need-cube-bytes-requires Inv-loop μ-loop
+cube-bytes-requires c κs = tt
+
+fresh-values-requires : tie.Need-fresh-values-requires Inv-loop μ-loop
+fresh-values-requires c κs = tt
+
+next-inside-requires : tie.Need-next-inside-requires Inv-loop μ-loop
+next-inside-requires c κs =
+    let start = c .before .before .before .before .before .before .before in
+    let pre = start .pre in
+    let s = of-length _ _ _ _ (pre .0) (c .before .before .before .cube-bytes .ensures) in
+    (s, omega arith, rw zero-mul at (s .stand .cube 0 (pre .1)), fresh-begins _ (start .args .counts .inputs) (omega (arith, s .legal .bounded .inputs)) (c .before .before .fresh-values .ensures), pre .2)
+
+same-length : tie.Need-same-length Inv-loop μ-loop
+same-length c =
+    let start = c .before .before .before .before .before .before .before .before .before .before .before in
+    let pre = start .pre in
+    let s = of-length _ _ _ _ (pre .0) (c .before .before .before .before .before .before .before .cube-bytes .ensures) in
+    begun-long _ _ _ _ _ s (pre .1) (start .args .verdict .now) (pre .2) _ (c .before .before .before .next-inside .ensures .2)
+
+returns : tie.Need-returns Inv-loop μ-loop
+returns c =
+    let start = c .before .before .before .before .before .before .before .before .before .before .before in
+    let pre = start .pre in
+    let s = of-length _ _ _ _ (pre .0) (c .before .before .before .before .before .before .before .cube-bytes .ensures) in
+    walked-none _ _ _ _ _ s (pre .1) _ (pre .2) (c .before .before .before .next-inside .ensures .0) (not-true _ (c .if1 .taken))
+
+loop-holds : tie.Need-loop-holds Inv-loop μ-loop
+loop-holds c =
+    let start = c .before .before .before .before .before .before .before .before .before .before .before in
+    let pre = start .pre in
+    let s = of-length _ _ _ _ (pre .0) (c .before .before .before .before .before .before .before .cube-bytes .ensures) in
+    let inside = c .before .before .before .next-inside .ensures in
+    passing-first _ _ _ _ _ s (pre .1) (start .args .verdict .now) (pre .2) _ (inside .2) (inside .0) (not-false _ (c .if1 .left)) _ _ (inside .1) refl
+
+mul-next-inside : tie.Need-mul-next-inside Inv-loop μ-loop
+mul-next-inside c =
+    let at = c .before in
+    let start = at .before .before .before .before .before .before .before .before .before .before .before .before in
+    let pre = start .pre in
+    let s = of-length _ _ _ _ (pre .0) (at .before .before .before .before .before .before .before .before .cube-bytes .ensures) in
+    let first = at .before .before .before .before .next-inside .ensures .2 in
+    let inv = at .loop .inv in
+    omega (arith, cube-place _ _ _ _ (c .loop-test .taken) (s .stand .fits), start .good)
+
+slice-aggregate-next-inside : tie.Need-slice-aggregate-next-inside Inv-loop μ-loop
+slice-aggregate-next-inside c = sym (c .before .before .before .loop .inv .long)
+
+next-inside-requires-2 : tie.Need-next-inside-requires-2 Inv-loop μ-loop
+next-inside-requires-2 c κs =
+    let at = c .before .before .before in
+    let start = at .before .before .before .before .before .before .before .before .before .before .before .before in
+    let pre = start .pre in
+    let s = of-length _ _ _ _ (pre .0) (at .before .before .before .before .before .before .before .before .cube-bytes .ensures) in
+    let first = at .before .before .before .before .next-inside .ensures .2 in
+    let inv = at .loop .inv in
+    let h = c .before .before .loop-test .taken in
+    (s, omega (arith, cube-place _ _ _ _ h (s .stand .fits)), s .stand .cube _ h, inv .ready, omega (arith, inv .long, s .legal .bounded .lamps))
+
+same-length-2 : tie.Need-same-length-2 Inv-loop μ-loop
+same-length-2 c =
+    let at = c .before .before .before .before .before .before in
+    let start = at .before .before .before .before .before .before .before .before .before .before .before .before in
+    let pre = start .pre in
+    let s = of-length _ _ _ _ (pre .0) (at .before .before .before .before .before .before .before .before .cube-bytes .ensures) in
+    let first = at .before .before .before .before .next-inside .ensures .2 in
+    let inv = at .loop .inv in
+    verdict-long _ _ _ _ _ s (pre .1) (start .args .verdict .now) (pre .2) _ first _ _ _ _ inv
+
+returns-2 : tie.Need-returns-2 Inv-loop μ-loop
+returns-2 c =
+    let at = c .before .before .before .before .before .before in
+    let start = at .before .before .before .before .before .before .before .before .before .before .before .before in
+    let pre = start .pre in
+    let s = of-length _ _ _ _ (pre .0) (at .before .before .before .before .before .before .before .before .cube-bytes .ensures) in
+    let first = at .before .before .before .before .next-inside .ensures .2 in
+    let inv = at .loop .inv in
+    walked-part _ _ _ _ _ s (pre .1) (start .args .verdict .now) (pre .2) _ first _ _ _ _ inv (c .before .before .before .before .before .loop-test .taken) (c .before .before .next-inside2 .ensures .0) (not-true _ (c .if2 .taken))
+
+slice-aggregate-agree : tie.Need-slice-aggregate-agree Inv-loop μ-loop
+slice-aggregate-agree c =
+    let at = c .before .before .before .before .before .before .before .before in
+    let start = at .before .before .before .before .before .before .before .before .before .before .before .before in
+    let pre = start .pre in
+    let s = of-length _ _ _ _ (pre .0) (at .before .before .before .before .before .before .before .before .cube-bytes .ensures) in
+    let first = at .before .before .before .before .next-inside .ensures .2 in
+    let inv = at .loop .inv in
+    sym (lamps-long _ _ _ _ _ s (pre .1) (start .args .verdict .now) (pre .2) _ first _ _ _ _ inv (c .before .before .before .before .before .before .before .loop-test .taken) _ (c .before .before .before .before .next-inside2 .ensures .2))
+
+agree-requires : tie.Need-agree-requires Inv-loop μ-loop
+agree-requires c κs =
+    let at = c .before .before .before .before .before .before .before .before in
+    let start = at .before .before .before .before .before .before .before .before .before .before .before .before in
+    let pre = start .pre in
+    let s = of-length _ _ _ _ (pre .0) (at .before .before .before .before .before .before .before .before .cube-bytes .ensures) in
+    let first = at .before .before .before .before .next-inside .ensures .2 in
+    let inv = at .loop .inv in
+    both-records _ _ _ _ _ s (pre .1) (start .args .verdict .now) (pre .2) _ first _ _ _ _ inv (c .before .before .before .before .before .before .before .loop-test .taken) _ (c .before .before .before .before .next-inside2 .ensures .2)
+
+add-k : tie.Need-add-k Inv-loop μ-loop
+add-k c = omega arith
+
+loop-less : tie.Need-loop-less Inv-loop μ-loop
+loop-less c = omega arith
+
+loop-again : tie.Need-loop-again Inv-loop μ-loop
+loop-again c =
+    let at = c .before .before .before .before .before .before .before .before .before .before .before in
+    let start = at .before .before .before .before .before .before .before .before .before .before .before .before in
+    let pre = start .pre in
+    let s = of-length _ _ _ _ (pre .0) (at .before .before .before .before .before .before .before .before .cube-bytes .ensures) in
+    let first = at .before .before .before .before .next-inside .ensures .2 in
+    let inv = at .loop .inv in
+    let inside = c .before .before .before .before .before .before .before .next-inside2 .ensures in
+    passing-next _ _ _ _ _ s (pre .1) (start .args .verdict .now) (pre .2) _ first _ _ _ _ inv (c .before .before .before .before .before .before .before .before .before .before .loop-test .taken) _ (inside .2) (inside .0) (not-false _ (c .before .before .before .before .before .if2 .left)) _ _ (c .before .before .agree .ensures) (inside .1)
+
+same-length-3 : tie.Need-same-length-3 Inv-loop μ-loop
+same-length-3 c =
+    let at = c .before in
+    let start = at .before .before .before .before .before .before .before .before .before .before .before .before in
+    let pre = start .pre in
+    let s = of-length _ _ _ _ (pre .0) (at .before .before .before .before .before .before .before .before .cube-bytes .ensures) in
+    let first = at .before .before .before .before .next-inside .ensures .2 in
+    let inv = at .loop .inv in
+    verdict-long _ _ _ _ _ s (pre .1) (start .args .verdict .now) (pre .2) _ first _ _ _ _ inv
+
+returns-3 : tie.Need-returns-3 Inv-loop μ-loop
+returns-3 c =
+    let at = c .before in
+    let start = at .before .before .before .before .before .before .before .before .before .before .before .before in
+    let pre = start .pre in
+    let s = of-length _ _ _ _ (pre .0) (at .before .before .before .before .before .before .before .before .cube-bytes .ensures) in
+    let first = at .before .before .before .before .next-inside .ensures .2 in
+    let inv = at .loop .inv in
+    walked-all _ _ _ _ _ s (pre .1) (start .args .verdict .now) (pre .2) _ first _ _ _ _ inv (omega arith)
+
+pub first-uncovered-spec : {M : Type 1} → statement M
+first-uncovered-spec =
+    tie.close
+    (tie.spec
+    Inv-loop
+    μ-loop
+    cube-bytes-requires
+    fresh-values-requires
+    next-inside-requires
+    same-length
+    returns
+    loop-holds
+    mul-next-inside
+    slice-aggregate-next-inside
+    next-inside-requires-2
+    same-length-2
+    returns-2
+    slice-aggregate-agree
+    agree-requires
+    add-k
+    loop-less
+    loop-again
+    same-length-3
+    returns-3)

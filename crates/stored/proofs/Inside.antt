@@ -1,0 +1,53 @@
+-- Cubes that are given, byte by byte: what the search finds among them is what the definition finds. Assumes nothing.
+use mathlib.Core.Path.{_≡_, sym, ap, _∙_}
+use mathlib.Core.Bool.{true, false}
+use mathlib.Core.List.{List}
+use Prim.Native.Nat.{ℕ, _+_, _*_, _<_}
+use native.Mathlib.Omega.{arith}
+use borrow.Author.Tests.{ltb-true, ltb-false}
+use lib.Dec.{ltb}
+use lib.ListN.{length, getD, take, drop, List·getD-append}
+use lib.Seq.{getD-drop, getD-take}
+use Rattle.three.specs.Lists.{over}
+use Rattle.three.specs.Cube.{Cube, subsumes}
+use Rattle.three.specs.Record.{pack}
+use Rattle.three.proofs.Lists.{by-test}
+use Rattle.circuit.specs.Circuit.{Circuit}
+use Rattle.cubes.specs.Run.{Found, at, nowhere, search}
+use Rattle.cubes.specs.Buffer.{cubeBytes, packCube, cubeIn}
+use Rattle.cubes.specs.BufferInCode.{Cubes}
+use Rattle.cubes.specs.Given.{first, covered}
+use Rattle.cubes.proofs.StoredCube.{cube-at, cube-pack, cube-long, cube-repacked, cube-in-sized, cube-covers, Bytes}
+use Rattle.stored.specs.CubesInCode.{coversFrom}
+use Rattle.stored.proofs.First.{first-ext, search-first}
+
+-- the bytes of a cube that was stored at the front of a buffer
+pub front-bytes : {latches : ℕ} (v : Cube) → length v ≡ latches → (d : List ℕ) → Bytes latches (λ i. getD (over (packCube v) d) i 0) v
+unfolding over
+front-bytes v sized d i h = List·getD-append (packCube v) _ 0 i (omega (arith, cube-long v sized))
+
+module _ (latches len n : ℕ) (cubes : List ℕ) (are : Cubes latches len n cubes) (small : (i : ℕ) → getD cubes i 0 < 256) where
+  given-bytes : (k : ℕ) → k < n → Bytes latches (λ i. getD cubes (k * len + i) 0) (cubeIn latches cubes k)
+  given-bytes k h i l =
+      sym (getD-drop (k * len) cubes i 0)
+      ∙ sym (getD-take (cubeBytes latches) (drop (k * len) cubes) i 0 l)
+      ∙ ap (λ (x : List ℕ). getD x i 0)
+      (cube-repacked latches (drop (k * len) cubes) (are .cube k h) (λ m. rw getD-drop (small (k * len + m)))
+      ∙ ap pack (cube-at latches (are .size) cubes k)
+      ∙ sym (cube-pack (cubeIn latches cubes k)))
+
+  module _ (b : List ℕ) (v : Cube) (sized : length v ≡ latches) (is : Bytes latches (λ i. getD b i 0) v) where
+    -- the byte-wise test is subsumption
+    pub given-covers : (k : ℕ) → k < n → coversFrom len cubes b (k * len) ≡ subsumes (cubeIn latches cubes k) v
+    unfolding coversFrom
+    given-covers k h = ap (λ (m : ℕ). coversFrom m cubes b (k * len)) (are .size) ∙ cube-covers _ _ _ _ (cube-in-sized latches cubes k) sized (given-bytes k h) is
+
+    -- and the search is the definition's
+    pub found-inside : (c : Circuit) {j : ℕ} → j ≡ first n (λ k. coversFrom len cubes b (k * len)) → ltb j n ≡ covered c (cubeIn latches cubes) n v
+    unfolding covered
+    found-inside c {j} e =
+        let same = e ∙ first-ext n _ (λ k. subsumes (cubeIn latches cubes k) v) given-covers in
+        let looked = search-first (cubeIn latches cubes) v n in
+        by-test (ltb j n)
+        (λ t. t ∙ sym (ap (λ (f : Found). elim f [ at k ↦ true | nowhere ↦ false ]) (looked .0 (rw same at (ltb-true j n t)))))
+        (λ t. t ∙ sym (ap (λ (f : Found). elim f [ at k ↦ true | nowhere ↦ false ]) (looked .1 (rw same at (ltb-false j n t)))))
