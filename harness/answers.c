@@ -6,6 +6,7 @@
  *   write I L O A WORDS w.. BYTES
  *   tick I L O A WORDS w.. STATE b.. SWITCHES b.. NEXT LAMPS
  *   run I L O A WORDS w.. W CUBES VERDICT SETTLED
+ *   cover I L O A WORDS w.. CUBES b.. N VERDICT
  */
 #include "simulator.h"
 
@@ -212,7 +213,7 @@ static size_t longer(size_t a, size_t b)
     return a > b ? a : b;
 }
 
-/* ---- the four vectors ---- */
+/* ---- the vectors ---- */
 
 static uint16_t given_table[MOST_WORDS];
 
@@ -303,6 +304,26 @@ static void answer_run(line_rest rest)
     free(cubes);
 }
 
+static void answer_cover(line_rest rest)
+{
+    static uint8_t cubes[MOST_BYTES];
+    chudravik_counts counts = take_counts(&rest);
+    size_t words = take_words(&rest, given_table);
+    size_t cubes_bytes = take_bytes(&rest, cubes);
+    size_t n = take_number(&rest);
+    size_t verdict_bytes = take_number(&rest);
+    if (is_turned_away(&rest, words, longer(cubes_bytes, verdict_bytes))) {
+        return;
+    }
+    uint8_t *verdict = lend(verdict_bytes);
+    chudravik_cover_answer answer =
+        simulate_cover(counts, given_table, words, cubes, cubes_bytes, n, verdict, verdict_bytes);
+    printf("cover number %u cube %zu", (unsigned)answer.number, answer.cube);
+    show_bytes("verdict", verdict, verdict_bytes);
+    putchar('\n');
+    free(verdict);
+}
+
 /* ---- the list ---- */
 
 static bool skip_name(line_rest *rest, const char *name)
@@ -328,6 +349,8 @@ static void answer_line(line_rest rest)
         answer_tick(rest);
     } else if (skip_name(&rest, "run")) {
         answer_run(rest);
+    } else if (skip_name(&rest, "cover")) {
+        answer_cover(rest);
     } else {
         puts("not a vector");
     }

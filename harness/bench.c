@@ -17,7 +17,7 @@
 #include <string.h>
 #include <time.h>
 
-enum { INTERVAL = 16, DEFAULT_ROUNDS = 60, MOST_ROUNDS = 10000, POISON = 0xA5 };
+enum { INTERVAL = 16, SENT_CUBES = 512, DEFAULT_ROUNDS = 60, MOST_ROUNDS = 10000, POISON = 0xA5 };
 
 static const double LEAST_NANOSECONDS = 4e6; /* of one round */
 
@@ -40,7 +40,8 @@ static const plan PLANS[] = {
 
 enum { CIRCUITS = sizeof PLANS / sizeof PLANS[0] };
 
-/* What the calls are given: a circuit in words and as text, a state and a switch setting, w and the lengths. */
+/* What the calls are given: a circuit in words and as text, a state and a switch setting, w and the lengths, and for a
+ * cover 512 cubes. */
 typedef struct {
     chudravik_counts counts;
     uint16_t table[CHUDRAVIK_MOST_TABLE_WORDS];
@@ -56,6 +57,9 @@ typedef struct {
     size_t cubes_bytes;
     size_t verdict_bytes;
     size_t settled_bytes;
+    uint8_t sent[SENT_CUBES * CHUDRAVIK_RECORD_BYTES(CHUDRAVIK_MOST_LATCHES)];
+    size_t sent_bytes;
+    size_t sent_cubes;
 } request;
 
 static uint64_t seed = 0x2545F4914F6CDD1D;
@@ -155,6 +159,24 @@ static void make_record(uint8_t *record, size_t fields)
     }
 }
 
+/* The cubes of the circuit's run, each as often as the next, in an order of chance. */
+static void make_cover(request *r)
+{
+    static uint8_t cubes[CHUDRAVIK_MOST_CUBE_BYTES];
+    uint8_t verdict[CHUDRAVIK_RECORD_BYTES(CHUDRAVIK_MOST_LAMPS)], settled[CHUDRAVIK_RECORD_BYTES(CHUDRAVIK_MOST_LATCHES)];
+    size_t bytes = CHUDRAVIK_RECORD_BYTES(r->counts.latches);
+    size_t n = chudravik_run(r->counts, r->table, r->table_words, r->w, cubes, sizeof cubes, verdict, sizeof verdict,
+                             settled, sizeof settled)
+                   .cubes;
+    for (size_t k = 0; k < SENT_CUBES; k++) {
+        size_t other = random_below(k + 1);
+        memmove(r->sent + k * bytes, r->sent + other * bytes, bytes);
+        memcpy(r->sent + other * bytes, cubes + k % n * bytes, bytes);
+    }
+    r->sent_cubes = SENT_CUBES;
+    r->sent_bytes = SENT_CUBES * bytes;
+}
+
 static void make_request(const plan *p, request *r)
 {
     memset(r, 0, sizeof *r);
@@ -171,6 +193,7 @@ static void make_request(const plan *p, request *r)
     r->verdict_bytes = CHUDRAVIK_RECORD_BYTES(CHUDRAVIK_MOST_LAMPS);
     r->settled_bytes = CHUDRAVIK_RECORD_BYTES(CHUDRAVIK_MOST_LATCHES);
     r->text_bytes = chudravik_write(r->counts, r->table, r->table_words, r->text, r->text_room).bytes;
+    make_cover(r);
 }
 
 /* ---- the two sides ---- */
@@ -213,6 +236,11 @@ static answer of_run(chudravik_run_answer a)
     return (answer){{a.number, a.cubes, a.back, a.settled}};
 }
 
+static answer of_cover(chudravik_cover_answer a)
+{
+    return (answer){{a.number, a.cube}};
+}
+
 #define READ(side, r, b) of_read(side##_read(r->text, r->text_bytes, b->table, r->table_words))
 #define WRITE(side, r, b) of_write(side##_write(r->counts, r->table, r->table_words, b->text, r->text_room))
 #define TICK(side, r, b)                                                                                        \
@@ -221,6 +249,9 @@ static answer of_run(chudravik_run_answer a)
 #define RUN(side, r, b)                                                                                         \
     of_run(side##_run(r->counts, r->table, r->table_words, r->w, b->cubes, r->cubes_bytes, b->verdict,          \
                       r->verdict_bytes, b->settled, r->settled_bytes))
+#define COVER(side, r, b)                                                                                       \
+    of_cover(side##_cover(r->counts, r->table, r->table_words, r->sent, r->sent_bytes, r->sent_cubes,           \
+                          b->verdict, r->verdict_bytes))
 #define SIDE(name, CALL, side)                                                                                  \
     static answer name(const request *r, buffers *b)                                                            \
     {                                                                                                           \
@@ -231,10 +262,12 @@ SIDE(library_read, READ, chudravik)
 SIDE(library_write, WRITE, chudravik)
 SIDE(library_tick, TICK, chudravik)
 SIDE(library_run, RUN, chudravik)
+SIDE(library_cover, COVER, chudravik)
 SIDE(c_read, READ, plain)
 SIDE(c_write, WRITE, plain)
 SIDE(c_tick, TICK, plain)
 SIDE(c_run, RUN, plain)
+SIDE(c_cover, COVER, plain)
 
 typedef struct {
     const char *name;
@@ -246,6 +279,7 @@ static const pair READING = {"read", library_read, c_read};
 static const pair WRITING = {"write", library_write, c_write};
 static const pair TICKING = {"tick", library_tick, c_tick};
 static const pair RUNNING = {"run", library_run, c_run};
+static const pair COVERING = {"cover", library_cover, c_cover};
 
 /* ---- equal answers ---- */
 
@@ -308,7 +342,7 @@ static void check_texts(const request *sound)
 /* The refusals of every call that is given a circuit. */
 static void check_circuits(const request *sound)
 {
-    static const pair *const GIVEN[] = {&WRITING, &TICKING, &RUNNING};
+    static const pair *const GIVEN[] = {&WRITING, &TICKING, &RUNNING, &COVERING};
     static request r;
     for (size_t i = 0; i < sizeof GIVEN / sizeof GIVEN[0]; i++) {
         r = *sound;
@@ -360,6 +394,29 @@ static void check_records(const request *sound)
     r = *sound;
     r.switches[0] |= 0x01; /* a leftover bit of one switch */
     expect(&TICKING, &r, CHUDRAVIK_RECORD);
+}
+
+static void check_covers(const request *sound)
+{
+    static request r;
+    size_t bytes = CHUDRAVIK_RECORD_BYTES(sound->counts.latches);
+    r = *sound;
+    r.sent_cubes++;
+    expect(&COVERING, &r, CHUDRAVIK_TOO_SHORT);
+    r = *sound;
+    r.sent[r.sent_bytes - 1] |= 0x03;
+    expect(&COVERING, &r, CHUDRAVIK_RECORD);
+    r = *sound;
+    r.sent_cubes = 0;
+    expect(&COVERING, &r, CHUDRAVIK_START_NOT_COVERED);
+    r = *sound;
+    r.sent_cubes = 1; /* the start alone: the counter in front goes on */
+    r.verdict_bytes = 0;
+    for (size_t i = 0; i < r.counts.latches; i++)
+        r.sent[i / 4] = (uint8_t)((i % 4 == 0 ? 0 : r.sent[i / 4]) | (r.table[2 * i + 1] == 0 ? 1 : 2) << (6 - 2 * (i % 4)));
+    expect(&COVERING, &r, CHUDRAVIK_NEXT_NOT_COVERED);
+    memset(r.sent, 0, bytes); /* all states */
+    expect(&COVERING, &r, CHUDRAVIK_TOO_SHORT);
 }
 
 /* ---- times ---- */
@@ -433,6 +490,11 @@ static double words_times_cubes(size_t i)
     return words_of_table(i) * (double)runs[i].numbers[1];
 }
 
+static double words_times_sent(size_t i)
+{
+    return words_of_table(i) * (double)requests[i].sent_cubes;
+}
+
 static void print_circuit(size_t i)
 {
     const chudravik_counts *c = &requests[i].counts;
@@ -449,12 +511,14 @@ static void check_all(void)
         expect(&WRITING, &requests[i], CHUDRAVIK_ACCEPTED);
         expect(&TICKING, &requests[i], CHUDRAVIK_ACCEPTED);
         runs[i] = expect(&RUNNING, &requests[i], CHUDRAVIK_ACCEPTED);
+        expect(&COVERING, &requests[i], CHUDRAVIK_ACCEPTED);
         print_circuit(i);
     }
     check_texts(&requests[0]);
     check_circuits(&requests[0]);
     check_lengths(&requests[0]);
     check_records(&requests[0]);
+    check_covers(&requests[0]);
     printf("equal answers and bytes from both sides\n\n");
 }
 
@@ -498,5 +562,6 @@ int main(int argc, char **argv)
     report(&WRITING, bytes_of_text, "bytes of text", rounds);
     report(&TICKING, words_of_table, "words of table", rounds);
     report(&RUNNING, words_times_cubes, "words x cubes", rounds);
+    report(&COVERING, words_times_sent, "words x 512 cubes", rounds);
     return 0;
 }

@@ -4,7 +4,10 @@
  * closed lets 64 executions of the circuit go in plain Booleans, with random switches, each from a random state that the
  * resets allow. At each tick t the lamps must
  * agree with the verdict, from tick j on the latches with the settled record, and the state must lie inside cube t, or
- * from tick n on inside cube j + (t - j) mod (n - j). TICKS is how many ticks are done at least, each execution's
+ * from tick n on inside cube j + (t - j) mod (n - j). The same of covers: the cubes of a closed run in another order,
+ * which must be accepted with the run's verdict; the one cube that comes of merging states until nothing is new; and a cube
+ * for each value of a latch, which may be refused. At each tick the state must lie inside one of the cubes, and the lamps
+ * agree with the verdict. TICKS is how many ticks are done at least, each execution's
  * counted; half of them go to the files. Exits 1, with the circuit's text, on a contradiction; and where TICKS is a
  * million or more, if too few verdicts came up to mean anything.
  *
@@ -39,12 +42,23 @@ struct run {
     uint8_t settled[CHUDRAVIK_RECORD_BYTES(CHUDRAVIK_MOST_LATCHES)];
 };
 
+struct sent {
+    bool accepted;
+    size_t n;
+    uint8_t cubes[CHUDRAVIK_MOST_CUBE_BYTES];
+    uint8_t verdict[CHUDRAVIK_RECORD_BYTES(CHUDRAVIK_MOST_LAMPS)];
+};
+
+enum { OF_RUN, OF_MERGE, OF_LATCH, COVERS };
+
 static struct {
     uint64_t circuits, files, runs, closed, no_room, never, always, open, open_seen_both, settled, free_starts, ticks;
+    uint64_t accepted[COVERS], refused, sent_never, sent_always;
 } sum;
 
 static struct circuit circuit;
 static struct run runs[RUNS];
+static struct sent covers[COVERS];
 
 static bool one_in(size_t bound)
 {
@@ -67,6 +81,13 @@ static _Noreturn void contradicted(const struct run *run, const char *what, uint
         execution++;
     fprintf(stderr, "boolean: %s contradicted at tick %" PRIu64 " by execution %d (w %zu, n %zu, j %zu, s %zu)\n", what,
             t, execution, run->w, run->answer.cubes, run->answer.back, run->answer.settled);
+    fwrite(circuit.text, 1, circuit.text_bytes, stderr);
+    exit(1);
+}
+
+static _Noreturn void cover_contradicted(const struct sent *sent, const char *what, uint64_t t)
+{
+    fprintf(stderr, "boolean: %s of a cover contradicted at tick %" PRIu64 " (n %zu)\n", what, t, sent->n);
     fwrite(circuit.text, 1, circuit.text_bytes, stderr);
     exit(1);
 }
@@ -168,6 +189,19 @@ static void check_tick(const struct run *run, uint64_t t)
         contradicted(run, "settled record", t, strays);
 }
 
+/* Each execution has to be inside some cube, not all of them in the same. */
+static void check_cover(const struct sent *sent, uint64_t t)
+{
+    size_t latches = circuit.counts.latches;
+    uint64_t strays = UINT64_MAX;
+    for (size_t k = 0; k < sent->n && strays; k++)
+        strays &= outside(sent->cubes + k * CHUDRAVIK_RECORD_BYTES(latches), state(), latches);
+    if (strays)
+        cover_contradicted(sent, "no cube", t);
+    if (outside(sent->verdict, lamps, circuit.counts.lamps))
+        cover_contradicted(sent, "the verdict", t);
+}
+
 static int is_closed(const struct run *run)
 {
     return run->answer.number == CHUDRAVIK_ACCEPTED;
@@ -186,6 +220,9 @@ static void simulate(uint64_t ticks, uint64_t *seen_lit, uint64_t *seen_dark)
         for (size_t r = 0; r < RUNS; r++)
             if (is_closed(&runs[r]))
                 check_tick(&runs[r], t);
+        for (size_t s = 0; s < COVERS; s++)
+            if (covers[s].accepted)
+                check_cover(&covers[s], t);
         tick();
     }
     sum.ticks += ticks * EXECUTIONS;
@@ -257,6 +294,91 @@ static void count_checked(const struct run *run, const uint64_t *seen_lit, const
     sum.settled += run->answer.settled;
 }
 
+/* ---- covers ---- */
+
+static uint32_t send_cover(struct sent *sent)
+{
+    size_t bytes = sent->n * CHUDRAVIK_RECORD_BYTES(circuit.counts.latches);
+    uint32_t number = chudravik_cover(circuit.counts, circuit.table, circuit.words, sent->cubes, bytes, sent->n,
+                                      sent->verdict, sizeof sent->verdict)
+                          .number;
+    sent->accepted = number == CHUDRAVIK_ACCEPTED;
+    sum.refused += !sent->accepted;
+    return number;
+}
+
+static void count_cover(size_t s)
+{
+    sum.accepted[s]++;
+    for (size_t i = 0; i < circuit.counts.lamps; i++) {
+        sum.sent_never += CHUDRAVIK_FIELD(covers[s].verdict, i) == CHUDRAVIK_LOW;
+        sum.sent_always += CHUDRAVIK_FIELD(covers[s].verdict, i) == CHUDRAVIK_HIGH;
+    }
+}
+
+/* The cubes of a run, from the last to the first. */
+static void send_run(struct sent *sent, const struct run *run)
+{
+    size_t record = CHUDRAVIK_RECORD_BYTES(circuit.counts.latches);
+    sent->n = run->answer.cubes;
+    for (size_t k = 0; k < sent->n; k++)
+        memcpy(sent->cubes + (sent->n - 1 - k) * record, run->cubes + k * record, record);
+    if (send_cover(sent) != CHUDRAVIK_ACCEPTED ||
+        memcmp(sent->verdict, run->verdict, CHUDRAVIK_RECORD_BYTES(circuit.counts.lamps)) != 0)
+        fail("cover", "the cubes of a closed run are refused, or judged otherwise", 0);
+}
+
+/* What a state and all that follow have in common, with all switches unknown. */
+static void send_merge(struct sent *sent)
+{
+    uint8_t next[CHUDRAVIK_RECORD_BYTES(CHUDRAVIK_MOST_LATCHES)], lit[CHUDRAVIK_RECORD_BYTES(CHUDRAVIK_MOST_LAMPS)];
+    static const uint8_t unknown[CHUDRAVIK_RECORD_BYTES(CHUDRAVIK_MOST_INPUTS)];
+    size_t record = CHUDRAVIK_RECORD_BYTES(circuit.counts.latches);
+    bool changed = true;
+    memset(sent->cubes, 0, record);
+    for (size_t i = 0; i < circuit.counts.latches; i++)
+        sent->cubes[i / 4] |= (uint8_t)((circuit.table[2 * i + 1] ? CHUDRAVIK_HIGH : CHUDRAVIK_LOW) << (6 - 2 * (i % 4)));
+    while (changed) {
+        uint32_t number = chudravik_tick(circuit.counts, circuit.table, circuit.words, sent->cubes, record, unknown,
+                                         sizeof unknown, next, sizeof next, lit, sizeof lit);
+        if (number != CHUDRAVIK_ACCEPTED)
+            fail("tick", "refused", number);
+        changed = false;
+        for (size_t k = 0; k < record; k++) {
+            changed |= (sent->cubes[k] & next[k]) != sent->cubes[k];
+            sent->cubes[k] &= next[k];
+        }
+    }
+    sent->n = 1;
+    uint32_t number = send_cover(sent);
+    if (number != CHUDRAVIK_ACCEPTED)
+        fail("cover", "refused, though its next state brings nothing new", number);
+}
+
+static void send_latch(struct sent *sent)
+{
+    size_t record = CHUDRAVIK_RECORD_BYTES(circuit.counts.latches), latch = below(circuit.counts.latches);
+    memset(sent->cubes, 0, 2 * record);
+    for (unsigned field = CHUDRAVIK_LOW; field <= CHUDRAVIK_HIGH; field++)
+        sent->cubes[(field - 1) * record + latch / 4] = (uint8_t)(field << (6 - 2 * (latch % 4)));
+    sent->n = 2;
+    send_cover(sent);
+}
+
+static void send_covers(void)
+{
+    const struct run *run = &runs[below(RUNS)];
+    covers[OF_RUN].accepted = covers[OF_LATCH].accepted = false;
+    if (is_closed(run))
+        send_run(&covers[OF_RUN], run);
+    send_merge(&covers[OF_MERGE]);
+    if (circuit.counts.latches > 0)
+        send_latch(&covers[OF_LATCH]);
+    for (size_t s = 0; s < COVERS; s++)
+        if (covers[s].accepted)
+            count_cover(s);
+}
+
 /* Goes at least twice through the longest closed run, so that each cube of its round is met again. */
 static void examine(uint64_t least_ticks)
 {
@@ -268,6 +390,7 @@ static void examine(uint64_t least_ticks)
         if (is_closed(&runs[r]) && runs[r].answer.cubes > longest)
             longest = runs[r].answer.cubes;
     }
+    send_covers();
     if (longest == 0)
         return;
     uint64_t ticks = 2 * longest + 64;
@@ -560,6 +683,10 @@ static void print_sum(void)
            sum.never, sum.always, sum.open, sum.open_seen_both);
     printf("settled latches %" PRIu64 "\n", sum.settled);
     printf("latches started by chance %" PRIu64 "\n", sum.free_starts);
+    printf("covers: of a run %" PRIu64 ", merged %" PRIu64 ", by a latch %" PRIu64 ", refused %" PRIu64
+           "; never %" PRIu64 ", always %" PRIu64 "\n",
+           sum.accepted[OF_RUN], sum.accepted[OF_MERGE], sum.accepted[OF_LATCH], sum.refused, sum.sent_never,
+           sum.sent_always);
     printf("ticks %" PRIu64 "\n", sum.ticks);
 }
 
@@ -584,7 +711,10 @@ int main(int argc, char **argv)
     print_sum();
     if (ticks >= MANY_TICKS &&
         (sum.never < LEAST_OF_A_KIND || sum.always < LEAST_OF_A_KIND || sum.settled < LEAST_OF_A_KIND ||
-         sum.free_starts < LEAST_OF_A_KIND)) {
+         sum.free_starts < LEAST_OF_A_KIND ||
+
+         sum.sent_never < LEAST_OF_A_KIND || sum.sent_always < LEAST_OF_A_KIND ||
+         sum.accepted[OF_LATCH] < LEAST_OF_A_KIND || sum.refused < LEAST_OF_A_KIND)) {
         fprintf(stderr, "boolean: too few verdicts of a kind\n");
         return 1;
     }

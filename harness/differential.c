@@ -963,7 +963,7 @@ static void lend_record(enum role role, size_t fields)
 /* ---- what was met ---- */
 
 /* The numbers as they are, but 10 by what was too short. */
-enum { MOST_NUMBER = 16, TEN_TABLE, TEN_GIVEN, TEN_RESULT, OUTCOMES };
+enum { MOST_NUMBER = 18, TEN_TABLE, TEN_GIVEN, TEN_RESULT, OUTCOMES };
 
 static uint64_t met[CALLS][OUTCOMES];
 
@@ -976,9 +976,12 @@ static bool can_give(enum call call, size_t outcome)
         return outcome == 0 || outcome == 3 || outcome == 11 || outcome == TEN_TABLE || outcome == TEN_RESULT;
     case TICK:
         return outcome == 0 || outcome == 3 || outcome == 11 || outcome == 14 || outcome >= TEN_TABLE;
-    default:
+    case RUN:
         return outcome == 0 || outcome == 3 || (outcome >= 11 && outcome <= 13) || outcome == 15 ||
                outcome == 16 || outcome == TEN_TABLE || outcome == TEN_RESULT;
+    default:
+        return outcome == 0 || outcome == 3 || outcome == 11 || outcome == 14 ||
+               (outcome >= 16 && outcome <= 18) || outcome >= TEN_TABLE;
     }
 }
 
@@ -1006,6 +1009,11 @@ enum sight {
     BOOLEAN_TICK,
     TERNARY_TICK,
     READ_BACK,
+    COVER_OF_A_RUN,
+    COVER_OF_OTHERS,
+    COVER_LONG,
+    COVER_NEVER,
+    COVER_LEFT_LATER,
     SIGHTS
 };
 
@@ -1024,6 +1032,11 @@ static const char *const sight_names[SIGHTS] = {
     "ticks without X",
     "ticks with X",
     "texts written and read back alike",
+    "covers accepted that a run's cubes were made to",
+    "covers accepted that another method made",
+    "covers accepted with 50 cubes or more",
+    "covers accepted with a lamp that never lights",
+    "covers refused with 18 for a later cube than cube 0",
 };
 
 static uint64_t seen[SIGHTS];
@@ -1251,6 +1264,203 @@ static void try_run(circuit *c)
     must_close_in_time(counts, w, &hand.library);
 }
 
+/* ---- covers ---- */
+
+/* Cubes for a circuit, one record behind the other, and how many. The library must take whatever they are. */
+typedef struct {
+    size_t latches, record, count, most;
+    uint8_t byte[CUBES_CEILING];
+} cover;
+
+static uint8_t *cube_at(cover *sent, size_t k)
+{
+    return sent->byte + k * sent->record;
+}
+
+static void add_cube(cover *sent, const uint8_t *cube)
+{
+    if (sent->count < sent->most)
+        memmove(cube_at(sent, sent->count++), cube, sent->record);
+}
+
+/* The cubes of a run, by the simulator, closed or not. */
+static void cover_by_run(cover *sent, const circuit *c)
+{
+    static uint16_t word[WORDS_CEILING];
+    static uint8_t verdict[LAMPS_CEILING], settled[LATCHES_CEILING];
+    lay_words(c, word);
+    sent->count = simulate_run(c->counts, word, WORDS_CEILING, ONE_OF(0, 0, 1, 2, 3, 16), sent->byte,
+                               least_of(sent->most, between(1, 400)) * sent->record, verdict, sizeof verdict, settled,
+                               sizeof settled)
+                      .cubes;
+}
+
+/* Both values of one latch, and nothing known of the others. */
+static void cover_by_latch(cover *sent, const circuit *c)
+{
+    uint8_t cube[LATCHES_CEILING] = {0};
+    size_t latch = c->counts.latches == 0 ? 0 : below(c->counts.latches);
+    for (size_t pair = 1; pair <= 2; pair++) {
+        if (c->counts.latches != 0)
+            set_pair(cube, latch, pair);
+        add_cube(sent, cube);
+    }
+}
+
+/* State after state from the resets on, each a cube, under one switch setting; at most so many. */
+static void cover_by_states(cover *sent, const circuit *c)
+{
+    static uint16_t word[WORDS_CEILING];
+    uint8_t state[LATCHES_CEILING] = {0}, switches[INPUTS_CEILING] = {0}, lamps[LAMPS_CEILING];
+    lay_words(c, word);
+    for (size_t i = 0; i < c->counts.latches; i++)
+        set_pair(state, i, c->reset[i] == 0 ? 1 : 2);
+    for (size_t ticks = between(1, 300); ticks > 0; ticks--) {
+        add_cube(sent, state);
+        if (simulate_tick(c->counts, word, WORDS_CEILING, state, sizeof state, switches, sizeof switches, state,
+                          sizeof state, lamps, sizeof lamps) != 0)
+            return;
+    }
+}
+
+/* The reset of each latch that keeps to it by itself, and nothing known of the others. */
+static void cover_by_keepers(cover *sent, const circuit *c)
+{
+    uint8_t cube[LATCHES_CEILING] = {0};
+    for (size_t i = 0; i < c->counts.latches; i++)
+        if (c->next[i] == c->reset[i] || c->next[i] == latch_literal(c, i))
+            set_pair(cube, i, c->reset[i] == 0 ? 1 : 2);
+    add_cube(sent, cube);
+}
+
+static void cover_by_chance(cover *sent)
+{
+    uint8_t cube[LATCHES_CEILING];
+    for (size_t count = below(6); count > 0; count--) {
+        memset(cube, 0, sizeof cube);
+        for (size_t i = 0; i < sent->latches; i++)
+            set_pair(cube, i, below(3));
+        add_cube(sent, cube);
+    }
+}
+
+static void shuffle(cover *sent)
+{
+    uint8_t kept[LATCHES_CEILING];
+    for (size_t k = sent->count; k > 1; k--) {
+        size_t other = below(k);
+        memcpy(kept, cube_at(sent, k - 1), sent->record);
+        memmove(cube_at(sent, k - 1), cube_at(sent, other), sent->record);
+        memcpy(cube_at(sent, other), kept, sent->record);
+    }
+}
+
+/* One cube more, taken away, or with a field known or unknown that was not: the cover holds, or only just not. */
+static void change_cover(cover *sent)
+{
+    size_t k = sent->count == 0 ? 0 : below(sent->count);
+    uint8_t *cube = cube_at(sent, k);
+    switch (below(5)) {
+    case 0:
+        if (sent->count > 0)
+            add_cube(sent, cube);
+        break;
+    case 1:
+        if (sent->count > 0)
+            memmove(cube, cube_at(sent, --sent->count), sent->record);
+        break;
+    case 2:
+        if (sent->count > 0 && sent->latches > 0)
+            set_pair(cube, below(sent->latches), 0);
+        break;
+    case 3:
+        if (sent->count > 0 && sent->latches > 0)
+            set_pair(cube, below(sent->latches), between(1, 2));
+        break;
+    default:
+        cover_by_chance(sent);
+    }
+}
+
+/* Whether a run made them, and nothing but their order was changed or one of them doubled. */
+static bool make_cover(cover *sent, const circuit *c, size_t latches)
+{
+    size_t roll = below(100);
+    sent->latches = latches;
+    sent->record = record_bytes(latches);
+    sent->most = least_of(CUBES_CEILING / sent->record, 600);
+    sent->count = 0;
+    memset(sent->byte, 0, sizeof sent->byte);
+    if (latches != c->counts.latches || roll < 8)
+        cover_by_chance(sent);
+    else if (roll < 60)
+        cover_by_run(sent, c);
+    else if (roll < 75)
+        cover_by_states(sent, c);
+    else if (roll < 85)
+        cover_by_latch(sent, c);
+    else
+        cover_by_keepers(sent, c);
+    if (chance(50))
+        shuffle(sent);
+    for (size_t changes = chance(40) ? between(1, 3) : 0; changes > 0; changes--)
+        change_cover(sent);
+    return roll >= 8 && roll < 60;
+}
+
+static size_t count_handed(const cover *sent)
+{
+    if (!troubled())
+        return sent->count;
+    return ONE_OF(0, sent->count + 1, sent->count - 1, sent->most + 1, (size_t)1 << 32, SIZE_MAX, SIZE_MAX / sent->record,
+                  SIZE_MAX / sent->record + 1, SIZE_MAX / sent->record + 1 + sent->count, (size_t)1 << 63, draw());
+}
+
+/* Behind the cubes noise, for it is ignored. */
+static void lend_cover(cover *sent)
+{
+    size_t used = sent->count * sent->record, length = least_of(length_for(used), sizeof sent->byte);
+    if (sent->count > 0 && troubled())
+        damage_record(cube_at(sent, below(sent->count)), sent->latches);
+    fill_noise(sent->byte + used, sizeof sent->byte - used);
+    lend_given(CUBES, sent->byte, length);
+}
+
+static size_t ten_of_cover(chudravik_counts counts)
+{
+    if (table_words(&hand) < words_of(counts))
+        return TEN_TABLE;
+    return hand.w > bytes_of(CUBES) / record_bytes(counts.latches) ? TEN_GIVEN : TEN_RESULT;
+}
+
+static void see_cover(chudravik_counts counts, bool of_run, const answer *made)
+{
+    see(COVER_LEFT_LATER, made->number == 18 && made->cube > 0);
+    if (made->number != 0)
+        return;
+    see(of_run ? COVER_OF_A_RUN : COVER_OF_OTHERS, true);
+    see(COVER_LONG, hand.w >= 50);
+    see(COVER_NEVER, has_pair(of_library(&hand, VERDICT), counts.lamps, 1));
+}
+
+static void try_cover(circuit *c)
+{
+    static cover sent;
+    make_circuit(c, 70);
+    chudravik_counts counts = handed_counts(c);
+    size_t latches = fields_for(counts.latches, c->counts.latches, LATCHES_CEILING);
+    size_t lamps = fields_for(counts.lamps, c->counts.lamps, LAMPS_CEILING);
+    bool of_run = make_cover(&sent, c, latches);
+    twice_begin(&hand, COVER, counts, count_handed(&sent));
+    lend_table(c);
+    lend_cover(&sent);
+    lend_noise(VERDICT, length_for(record_bytes(lamps)));
+    make_call();
+    note(COVER, hand.library.number, ten_of_cover(counts));
+    see_size(hand.library.number, counts);
+    see_cover(counts, of_run, &hand.library);
+}
+
 static void try_call(uint64_t number)
 {
     static circuit c;
@@ -1258,14 +1468,16 @@ static void try_call(uint64_t number)
     throw_dice(seed, number);
     set_trouble();
     size_t roll = below(100);
-    if (roll < 38)
+    if (roll < 33)
         try_read(&c);
-    else if (roll < 52)
+    else if (roll < 45)
         try_write(&c);
-    else if (roll < 70)
+    else if (roll < 60)
         try_tick(&c);
-    else
+    else if (roll < 84)
         try_run(&c);
+    else
+        try_cover(&c);
 }
 
 /* ---- at the end ---- */

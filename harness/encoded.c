@@ -136,13 +136,24 @@ static void lay_run(twice *t, string_rest *rest)
     give_table(t, rest, table_bytes);
 }
 
+static void lay_cover(twice *t, string_rest *rest)
+{
+    chudravik_counts counts = take_counts(rest);
+    size_t table_bytes = take_table_bytes(rest);
+    twice_begin(t, COVER, counts, take_number(rest));
+    size_t cubes_bytes = take_length(rest);
+    lend_bytes(t, rest, VERDICT, take_length(rest));
+    give_table(t, rest, table_bytes);
+    give_bytes(t, rest, CUBES, cubes_bytes);
+}
+
 bool encoded_make(twice *t, const uint8_t *string, size_t bytes)
 {
-    static void (*const lay[CALLS])(twice *, string_rest *) = {lay_read, lay_write, lay_tick, lay_run};
+    static void (*const lay[CALLS])(twice *, string_rest *) = {lay_read, lay_write, lay_tick, lay_run, lay_cover};
     string_rest rest = {.at = string, .end = string + bytes};
     uint8_t first = take_byte(&rest);
     rest.short_words = first & 4;
     rest.ways = take_byte(&rest);
-    lay[first & 3](t, &rest);
+    lay[first & 8 ? COVER : first & 3](t, &rest);
     return twice_make(t);
 }

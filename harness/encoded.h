@@ -1,11 +1,13 @@
 /* A call as a string of bytes, for whoever looks for calls by changing bytes: every string is a call.
  *
- *   byte 0      the call (its two low bits), and whether a word of a table is one byte (bit 2) or two
+ *   byte 0      the call (its two low bits, or a cover where bit 3 is set), and whether a word of a table is one byte
+ *               (bit 2) or two
  *   byte 1      how the buffers are laid (twice.h), two bits for each
  *   read        the table's words; how many bytes the text has at least; then the text as it is, with `x` behind it
  *   write       I, L, O, A, the table's words, the text's bytes; then the table
  *   tick        I, L, O, A, the table's words, the bytes of state, switches, next and lamps; then table, state, switches
  *   run         I, L, O, A, the table's words, w, the bytes of cubes, verdict and settled; then the table
+ *   cover       I, L, O, A, the table's words, n, the bytes of cubes and verdict; then table, cubes
  *
  * A number is one byte below 240; or two, 240 + 256 x (first - 240) + second; or 255 and eight, the lowest first. What
  * the string has no bytes for is 0, and a length beyond any that is judged is cut.

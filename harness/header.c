@@ -60,10 +60,25 @@ static int runs(chudravik_counts counts)
            CHUDRAVIK_FIELD(lamps, 0) == CHUDRAVIK_LOW && CHUDRAVIK_FIELD(state, 1) == CHUDRAVIK_UNKNOWN;
 }
 
+/* The run's two cubes, the other way round; then the first alone, whose next state is the second. */
+static int covers(chudravik_counts counts)
+{
+    const uint8_t swapped[2] = {cubes[1], cubes[0]};
+    chudravik_cover_answer cover =
+        chudravik_cover(counts, table, CHUDRAVIK_MOST_TABLE_WORDS, swapped, sizeof swapped, 2, lamps, sizeof lamps);
+    chudravik_cover_answer left = chudravik_cover(counts, table, CHUDRAVIK_MOST_TABLE_WORDS, cubes, sizeof cubes, 1, lamps,
+                                                  sizeof lamps);
+    chudravik_cover_answer none = chudravik_cover(counts, table, CHUDRAVIK_MOST_TABLE_WORDS, cubes, sizeof cubes, 0, lamps,
+                                                  sizeof lamps);
+    return cover.number == CHUDRAVIK_ACCEPTED && cover.cube == 0 && CHUDRAVIK_FIELD(lamps, 0) == CHUDRAVIK_LOW &&
+           left.number == CHUDRAVIK_NEXT_NOT_COVERED && left.cube == 0 && none.number == CHUDRAVIK_START_NOT_COVERED;
+}
+
 int main(void)
 {
     chudravik_counts counts;
-    if (!version_agrees() || !reads(&counts) || !writes_back(counts) || !ticks(counts) || !runs(counts)) {
+    if (!version_agrees() || !reads(&counts) || !writes_back(counts) || !ticks(counts) || !runs(counts) ||
+        !covers(counts)) {
         fputs("header: not as it must be\n", stderr);
         return 1;
     }

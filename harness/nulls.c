@@ -32,11 +32,15 @@ static const sample samples[] = {
 
 enum { SAMPLES = sizeof samples / sizeof samples[0] };
 
+/* One cube, which all states lie inside. */
+static const uint8_t no_latch_known = 0;
+
 static const enum role buffers_of[CALLS][6] = {
     [READ] = {TEXT, TABLE, ROLES},
     [WRITE] = {TABLE, TEXT, ROLES},
     [TICK] = {TABLE, STATE, SWITCHES, NEXT, LAMPS, ROLES},
     [RUN] = {TABLE, CUBES, VERDICT, SETTLED, ROLES},
+    [COVER] = {TABLE, CUBES, VERDICT, ROLES},
 };
 
 static size_t count_buffers(enum call call)
@@ -49,7 +53,8 @@ static size_t count_buffers(enum call call)
 
 static bool is_given(enum call call, enum role role)
 {
-    return role == STATE || role == SWITCHES || (role == TEXT && call == READ) || (role == TABLE && call != READ);
+    return role == STATE || role == SWITCHES || (role == TEXT && call == READ) || (role == TABLE && call != READ) ||
+           (role == CUBES && call == COVER);
 }
 
 static const void *given_content(const sample *s, enum role role)
@@ -61,6 +66,8 @@ static const void *given_content(const sample *s, enum role role)
         return s->table;
     case STATE:
         return &s->state;
+    case CUBES:
+        return &no_latch_known;
     default:
         return &s->switches;
     }

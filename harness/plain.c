@@ -1,4 +1,4 @@
-/* The four calls in plain C (plain.h). Numbers in brackets are sections of docs/SPECIFICATION.md. */
+/* The five calls in plain C (plain.h). Numbers in brackets are sections of docs/SPECIFICATION.md. */
 #include "plain.h"
 
 #include <stdbool.h>
@@ -134,6 +134,15 @@ static uint32_t circuit_refusal(const chudravik_counts *counts, const uint16_t *
         return CHUDRAVIK_TABLE;
     }
     return CHUDRAVIK_ACCEPTED;
+}
+
+/* "16, no lamps, in the run directly after 3", and so in the cover. */
+static uint32_t board_refusal(const chudravik_counts *counts, const uint16_t *table, size_t table_words)
+{
+    if (counts_kept(counts) && counts->lamps == 0) {
+        return CHUDRAVIK_NO_LAMPS;
+    }
+    return circuit_refusal(counts, table, table_words);
 }
 
 /* ---- one pass over the gates ---- */
@@ -340,10 +349,7 @@ static void settle_latches(const uint8_t *cubes, size_t length, size_t n, size_t
 static uint32_t run_refusal(const chudravik_counts *counts, const uint16_t *table, size_t table_words, size_t w,
                             size_t cubes_bytes, size_t verdict_bytes, size_t settled_bytes)
 {
-    if (counts_kept(counts) && counts->lamps == 0) {
-        return CHUDRAVIK_NO_LAMPS;
-    }
-    uint32_t number = circuit_refusal(counts, table, table_words);
+    uint32_t number = board_refusal(counts, table, table_words);
     if (number != CHUDRAVIK_ACCEPTED) {
         return number;
     }
@@ -382,6 +388,76 @@ chudravik_run_answer plain_run(chudravik_counts counts, const uint16_t *table, s
     answer.back = j;
     answer.settled = known_fields(settled, counts.latches);
     return answer;
+}
+
+/* ---- the cover ---- */
+
+/* "3, 10 for the table, 11, 10 for n records, 14" */
+static uint32_t given_refusal(const chudravik_counts *counts, const uint16_t *table, size_t table_words,
+                              const uint8_t *cubes, size_t cubes_bytes, size_t n)
+{
+    uint32_t number = board_refusal(counts, table, table_words);
+    if (number != CHUDRAVIK_ACCEPTED) {
+        return number;
+    }
+    size_t length = record_length(counts->latches);
+    if (n > cubes_bytes / length) {
+        return CHUDRAVIK_TOO_SHORT;
+    }
+    for (size_t k = 0; k < n; k++) {
+        if (!sound(cubes + k * length, counts->latches)) {
+            return CHUDRAVIK_RECORD;
+        }
+    }
+    return CHUDRAVIK_ACCEPTED;
+}
+
+/* "the number of the first cube whose next state is not inside a single cube": n if each is, and then all lamps are
+ * judged. One pass a cube gives its next state and its lamps. */
+static size_t first_uncovered(const chudravik_counts *counts, const uint16_t *table, const uint8_t *cubes, size_t n,
+                              uint8_t *verdict)
+{
+    size_t length = record_length(counts->latches);
+    uint8_t values[VARIABLES] = {CHUDRAVIK_LOW};
+    uint8_t next[MOST_RECORD];
+    uint8_t lamps[MOST_LAMP_RECORD];
+    for (size_t k = 0; k < n; k++) {
+        settle_state(counts, table, cubes + k * length, values);
+        store_next(counts, table, values, next);
+        if (search(cubes, length, n, next) == n) {
+            return k;
+        }
+        store_lamps(counts, table, values, k == 0 ? verdict : lamps);
+        if (k > 0) {
+            agree(verdict, lamps, record_length(counts->lamps));
+        }
+    }
+    return n;
+}
+
+chudravik_cover_answer plain_cover(chudravik_counts counts, const uint16_t *table, size_t table_words,
+                                   const uint8_t *cubes, size_t cubes_bytes, size_t n, uint8_t *verdict,
+                                   size_t verdict_bytes)
+{
+    uint32_t number = given_refusal(&counts, table, table_words, cubes, cubes_bytes, n);
+    if (number != CHUDRAVIK_ACCEPTED) {
+        return (chudravik_cover_answer){number, 0};
+    }
+    uint8_t start[MOST_RECORD];
+    store_start(table, counts.latches, start);
+    if (search(cubes, record_length(counts.latches), n, start) == n) {
+        return (chudravik_cover_answer){CHUDRAVIK_START_NOT_COVERED, 0};
+    }
+    uint8_t lamps[MOST_LAMP_RECORD];
+    size_t cube = first_uncovered(&counts, table, cubes, n, lamps);
+    if (cube < n) {
+        return (chudravik_cover_answer){CHUDRAVIK_NEXT_NOT_COVERED, cube};
+    }
+    if (verdict_bytes < record_length(counts.lamps)) {
+        return (chudravik_cover_answer){CHUDRAVIK_TOO_SHORT, 0};
+    }
+    memcpy(verdict, lamps, record_length(counts.lamps));
+    return (chudravik_cover_answer){CHUDRAVIK_ACCEPTED, 0};
 }
 
 /* ---- the reader ---- */

@@ -1,4 +1,4 @@
-/* The four calls of chudravik.h once more, in plain C and unproved: what the benchmark measures the library against.
+/* The five calls of chudravik.h once more, in plain C and unproved: what the benchmark measures the library against.
  * Each does what its namesake does, by the same algorithm over the same data. */
 #ifndef PLAIN_H
 #define PLAIN_H
@@ -17,5 +17,9 @@ uint32_t plain_tick(chudravik_counts counts, const uint16_t *table, size_t table
 chudravik_run_answer plain_run(chudravik_counts counts, const uint16_t *table, size_t table_words, size_t w,
                                uint8_t *cubes, size_t cubes_bytes, uint8_t *verdict, size_t verdict_bytes,
                                uint8_t *settled, size_t settled_bytes);
+
+chudravik_cover_answer plain_cover(chudravik_counts counts, const uint16_t *table, size_t table_words,
+                                   const uint8_t *cubes, size_t cubes_bytes, size_t n, uint8_t *verdict,
+                                   size_t verdict_bytes);
 
 #endif

@@ -167,7 +167,7 @@ static uint32_t take_circuit(circuit *c, chudravik_counts counts, const uint16_t
     return sound(c) ? 0 : 11;
 }
 
-/* The run's: 16, no lamps, directly after 3. */
+/* The run's and the cover's: 16, no lamps, directly after 3. */
 static uint32_t take_board(circuit *c, chudravik_counts counts, const uint16_t *table, size_t table_words)
 {
     if (within_ceilings(counts) && counts.lamps == 0)
@@ -566,11 +566,16 @@ static value start_value(size_t reset)
     return reset == 0 ? KNOWN_0 : reset == 1 ? KNOWN_1 : UNKNOWN;
 }
 
+static void set_resets(const circuit *c, value *field)
+{
+    for (size_t i = 0; i < c->latches; i++)
+        field[i] = start_value(c->latch[i].reset);
+}
+
 static void start(chain *run)
 {
     value resets[LATCHES_CEILING];
-    for (size_t i = 0; i < run->circuit->latches; i++)
-        resets[i] = start_value(run->circuit->latch[i].reset);
+    set_resets(run->circuit, resets);
     add_cube(run, resets);
 }
 
@@ -699,4 +704,98 @@ chudravik_run_answer simulate_run(chudravik_counts counts, const uint16_t *table
     if (refusal != 0)
         return (chudravik_run_answer){.number = refusal};
     return run_circuit(&c, w, cubes, cubes_bytes / record_length(c.latches), verdict, settled);
+}
+
+/* ---- a sent cover ---- */
+
+/* Refusals 10 and 14 of the n records; the buffer may have any length, and n any size. */
+static uint32_t judge_cubes(const circuit *c, const uint8_t *cubes, size_t cubes_bytes, size_t n)
+{
+    size_t record = record_length(c->latches);
+    if (n > cubes_bytes / record)
+        return 10;
+    for (size_t k = 0; k < n; k++)
+        if (!good_record(cubes + k * record, c->latches))
+            return 14;
+    return 0;
+}
+
+static chain take_cubes(const circuit *c, const uint8_t *cubes, size_t n)
+{
+    chain sent = {.circuit = c};
+    value field[LATCHES_CEILING];
+    for (size_t k = 0; k < n; k++) {
+        unpack(cubes + k * record_length(c->latches), field, c->latches);
+        add_cube(&sent, field);
+    }
+    return sent;
+}
+
+static bool lies_inside(const chain *sent, const value *b)
+{
+    return search(sent, b) < sent->count;
+}
+
+static bool start_lies_inside(const chain *sent)
+{
+    value resets[LATCHES_CEILING];
+    set_resets(sent->circuit, resets);
+    return lies_inside(sent, resets);
+}
+
+/* The first cube whose next state, all switches X, is not inside a single cube, or the count of cubes. */
+static size_t first_that_leaves(const chain *sent)
+{
+    value b[LATCHES_CEILING], lamps[LAMPS_CEILING], switches[INPUTS_CEILING];
+    memset(switches, UNKNOWN, sizeof switches);
+    size_t k = 0;
+    for (; k < sent->count; k++) {
+        tick(sent->circuit, cube(sent, k), switches, b, lamps);
+        if (!lies_inside(sent, b))
+            break;
+    }
+    return k;
+}
+
+static void judge_lamps(const chain *sent, value *verdict)
+{
+    value b[LATCHES_CEILING], lamps[LAMPS_CEILING], switches[INPUTS_CEILING];
+    memset(switches, UNKNOWN, sizeof switches);
+    for (size_t k = 0; k < sent->count; k++) {
+        tick(sent->circuit, cube(sent, k), switches, b, lamps);
+        for (size_t i = 0; i < sent->circuit->lamps; i++)
+            verdict[i] = k == 0 ? lamps[i] : shared(verdict[i], lamps[i]);
+    }
+}
+
+static chudravik_cover_answer judge_cover(const chain *sent, uint8_t *verdict, size_t verdict_bytes)
+{
+    const circuit *c = sent->circuit;
+    if (!start_lies_inside(sent))
+        return (chudravik_cover_answer){.number = 17};
+    size_t leaves = first_that_leaves(sent);
+    if (leaves < sent->count)
+        return (chudravik_cover_answer){18, leaves};
+    if (verdict_bytes < record_length(c->lamps))
+        return (chudravik_cover_answer){.number = 10};
+    value lamps[LAMPS_CEILING];
+    judge_lamps(sent, lamps);
+    pack(lamps, c->lamps, verdict);
+    return (chudravik_cover_answer){0};
+}
+
+chudravik_cover_answer simulate_cover(chudravik_counts counts, const uint16_t *table, size_t table_words,
+                                      const uint8_t *cubes, size_t cubes_bytes, size_t n, uint8_t *verdict,
+                                      size_t verdict_bytes)
+{
+    circuit c;
+    uint32_t refusal = take_board(&c, counts, table, table_words);
+    if (refusal == 0)
+        refusal = judge_cubes(&c, cubes, cubes_bytes, n);
+    if (refusal != 0)
+        return (chudravik_cover_answer){.number = refusal};
+    chain sent = take_cubes(&c, cubes, n);
+    chudravik_cover_answer answer = judge_cover(&sent, verdict, verdict_bytes);
+    free(sent.field);
+    return answer;
 }

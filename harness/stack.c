@@ -27,6 +27,7 @@ static uint8_t switches[CHUDRAVIK_RECORD_BYTES(CHUDRAVIK_MOST_INPUTS)];
 static uint8_t lamps[CHUDRAVIK_RECORD_BYTES(CHUDRAVIK_MOST_LAMPS)];
 static uint8_t settled[CHUDRAVIK_RECORD_BYTES(CHUDRAVIK_MOST_LATCHES)];
 static uint32_t number;
+static size_t stored;
 
 static void call_nothing(void)
 {
@@ -52,8 +53,16 @@ static void call_tick(void)
 
 static void call_run(void)
 {
-    number = chudravik_run(counts, table, CHUDRAVIK_MOST_TABLE_WORDS, 16, cubes, sizeof cubes, lamps, sizeof lamps,
-                           settled, sizeof settled)
+    chudravik_run_answer answer = chudravik_run(counts, table, CHUDRAVIK_MOST_TABLE_WORDS, 16, cubes, sizeof cubes, lamps,
+                                                sizeof lamps, settled, sizeof settled);
+    number = answer.number;
+    stored = answer.cubes;
+}
+
+/* The cubes that the run left. */
+static void call_cover(void)
+{
+    number = chudravik_cover(counts, table, CHUDRAVIK_MOST_TABLE_WORDS, cubes, sizeof cubes, stored, lamps, sizeof lamps)
                  .number;
 }
 
@@ -96,7 +105,8 @@ int main(void)
     static const struct {
         const char *name;
         void (*call)(void);
-    } calls[] = {{"write", call_write}, {"read", call_read}, {"tick", call_tick}, {"run", call_run}};
+    } calls[] = {{"write", call_write}, {"read", call_read}, {"tick", call_tick}, {"run", call_run},
+                 {"cover", call_cover}};
     int failed = 0;
     make_circuit();
     size_t nothing = stack_of(call_nothing);

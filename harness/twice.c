@@ -6,7 +6,7 @@
 #include <stdlib.h>
 #include <string.h>
 
-const char *const call_names[CALLS] = {"read", "write", "tick", "run"};
+const char *const call_names[CALLS] = {"read", "write", "tick", "run", "cover"};
 const char *const role_names[ROLES] = {"text",  "table", "state",   "switches", "next",
                                        "lamps", "cubes", "verdict", "settled"};
 
@@ -153,10 +153,27 @@ static answer simulator_runs(const twice *t)
     return (answer){.number = run.number, .cubes = run.cubes, .back = run.back, .settled = run.settled};
 }
 
+static answer library_covers(const twice *t)
+{
+    chudravik_cover_answer cover =
+        chudravik_cover(t->counts, library_table(t), table_words(t), of_library(t, CUBES), bytes_of(t, CUBES), t->w,
+                        of_library(t, VERDICT), bytes_of(t, VERDICT));
+    return (answer){.number = cover.number, .cube = cover.cube};
+}
+
+static answer simulator_covers(const twice *t)
+{
+    chudravik_cover_answer cover =
+        simulate_cover(t->counts, simulator_table(t), table_words(t), of_simulator(t, CUBES), bytes_of(t, CUBES), t->w,
+                       of_simulator(t, VERDICT), bytes_of(t, VERDICT));
+    return (answer){.number = cover.number, .cube = cover.cube};
+}
+
 typedef answer call_of(const twice *t);
 
-static call_of *const by_library[CALLS] = {library_reads, library_writes, library_ticks, library_runs};
-static call_of *const by_simulator[CALLS] = {simulator_reads, simulator_writes, simulator_ticks, simulator_runs};
+static call_of *const by_library[CALLS] = {library_reads, library_writes, library_ticks, library_runs, library_covers};
+static call_of *const by_simulator[CALLS] = {simulator_reads, simulator_writes, simulator_ticks, simulator_runs,
+                                             simulator_covers};
 
 /* ---- what is compared ---- */
 
@@ -183,7 +200,7 @@ static bool same_answers(twice *t)
            same_number(t, "O", l->counts.lamps, s->counts.lamps) &&
            same_number(t, "A", l->counts.gates, s->counts.gates) && same_number(t, "bytes", l->bytes, s->bytes) &&
            same_number(t, "n", l->cubes, s->cubes) && same_number(t, "j", l->back, s->back) &&
-           same_number(t, "s", l->settled, s->settled);
+           same_number(t, "s", l->settled, s->settled) && same_number(t, "cube", l->cube, s->cube);
 }
 
 static bool same_bytes(twice *t, enum role role, const char *complaint, const uint8_t *due)
@@ -247,7 +264,7 @@ static void show_buffer(const char *name, const lent *l)
 
 void twice_show(const twice *t)
 {
-    fprintf(stderr, "  call %s, I %zu, L %zu, O %zu, A %zu, w %zu\n", call_names[t->call], t->counts.inputs,
+    fprintf(stderr, "  call %s, I %zu, L %zu, O %zu, A %zu, w (or n) %zu\n", call_names[t->call], t->counts.inputs,
             t->counts.latches, t->counts.lamps, t->counts.gates, t->w);
     for (size_t role = 0; role < ROLES; role++)
         if (t->lent[role].used)

@@ -8,7 +8,7 @@
 #include "guarded.h"
 #include "simulator.h"
 
-enum call { READ, WRITE, TICK, RUN, CALLS };
+enum call { READ, WRITE, TICK, RUN, COVER, CALLS };
 
 enum role { TEXT, TABLE, STATE, SWITCHES, NEXT, LAMPS, CUBES, VERDICT, SETTLED, ROLES };
 
@@ -40,12 +40,13 @@ typedef struct {
     size_t cubes;
     size_t back;
     size_t settled;
+    size_t cube;
 } answer;
 
 typedef struct {
     enum call call;
     chudravik_counts counts;
-    size_t w;
+    size_t w; /* of a run; of a cover its n */
     lent lent[ROLES];
     answer library;
     answer simulator;

@@ -1,6 +1,6 @@
 /* Chudravik: reads a logic circuit (AIGER ASCII), follows it in 0, 1 and X, and says which lamps can never light.
  *
- * Four calls, each with no state behind it: it reads what it is given, fills what it is lent, and answers a number.
+ * Five calls, each with no state behind it: it reads what it is given, fills what it is lent, and answers a number.
  * 0 is accepted; any other number is a refusal (below). Every call ends, for any numbers and any bytes.
  *
  * A buffer is a pointer and a length: in bytes, and for a table in 16-bit words. Nothing beyond a buffer's length is
@@ -99,9 +99,11 @@ extern "C" {
 #define CHUDRAVIK_RECORD 14             /* a pair 11, or a leftover bit set, in a given record */
 #define CHUDRAVIK_NO_ROOM 15            /* no room for the next cube */
 #define CHUDRAVIK_NO_LAMPS 16           /* no lamps, so nothing that a run could judge */
+#define CHUDRAVIK_START_NOT_COVERED 17  /* the start lies inside none of the given cubes */
+#define CHUDRAVIK_NEXT_NOT_COVERED 18   /* the next state of a given cube lies inside none of them */
 
 /* Where several apply, the first in the order named at the call is given. A refusal answers zeros beside its number and
- * changes no buffer, save 15 (chudravik_run). */
+ * changes no buffer, save 15 (chudravik_run); 18 names a cube (chudravik_cover). */
 
 /* ---- the calls ---- */
 
@@ -130,6 +132,11 @@ typedef struct {
     size_t settled; /* s: how many latches are settled */
 } chudravik_run_answer;
 
+typedef struct {
+    uint32_t number;
+    size_t cube; /* with 18 the first cube whose next state lies inside none; else 0 */
+} chudravik_cover_answer;
+
 /* The archive is compiled for these sizes and places; elsewhere its answers would be read wrongly. */
 #if defined(__cplusplus) && __cplusplus >= 201103L
 #define CHUDRAVIK_IS(name, what, due) static_assert((what) == (due), "chudravik: " #name)
@@ -157,6 +164,9 @@ CHUDRAVIK_IS(place_of_run_number, offsetof(chudravik_run_answer, number), 0);
 CHUDRAVIK_IS(place_of_cubes, offsetof(chudravik_run_answer, cubes), 8);
 CHUDRAVIK_IS(place_of_back, offsetof(chudravik_run_answer, back), 16);
 CHUDRAVIK_IS(place_of_settled, offsetof(chudravik_run_answer, settled), 24);
+CHUDRAVIK_IS(size_of_cover_answer, sizeof(chudravik_cover_answer), 16);
+CHUDRAVIK_IS(place_of_cover_number, offsetof(chudravik_cover_answer, number), 0);
+CHUDRAVIK_IS(place_of_cube, offsetof(chudravik_cover_answer, cube), 8);
 
 #undef CHUDRAVIK_IS
 
@@ -191,6 +201,18 @@ uint32_t chudravik_tick(chudravik_counts counts, const uint16_t *table, size_t t
 chudravik_run_answer chudravik_run(chudravik_counts counts, const uint16_t *table, size_t table_words, size_t w,
                                    uint8_t *cubes, size_t cubes_bytes, uint8_t *verdict, size_t verdict_bytes,
                                    uint8_t *settled, size_t settled_bytes);
+
+/* Judges cubes that were worked out elsewhere: n of them, in any order, cube k from byte k x CHUDRAVIK_RECORD_BYTES(latches)
+ * on; a buffer of any length. They are accepted exactly where the start (the resets) lies inside one of them, and the next
+ * state of each, all switches unknown, inside a single one of them. verdict: for each lamp as in a run, over all n cubes.
+ * An accepted cover (number 0) covers every execution: whatever the switches do, the state lies inside one of the cubes at
+ * every tick, so CHUDRAVIK_LOW is dark at every tick and CHUDRAVIK_HIGH lit. Nothing of how the cubes were made is relied on.
+ * Refusals: 3, 16, 10 for the table, 11, 10 where n records do not fit into the buffer (any n), 14 for any of the n records, 17,
+ * 18, 10 for verdict. No cube (n = 0) is 17. Bytes beyond the n cubes are ignored, and those after the verdict's record stay
+ * as they were. */
+chudravik_cover_answer chudravik_cover(chudravik_counts counts, const uint16_t *table, size_t table_words,
+                                       const uint8_t *cubes, size_t cubes_bytes, size_t n, uint8_t *verdict,
+                                       size_t verdict_bytes);
 
 #ifdef __cplusplus
 }

@@ -19,7 +19,7 @@ use Rattle.cubes.proofs.Growing.{held-sized}
 use Rattle.stored.proofs.Keeping.{length-kept}
 use Rattle.stored.proofs.Starting.{start-fields}
 use Rattle.cubes.proofs.Storing.{records-sized, stored-cube, stored-sound, stored-byte}
-use Rattle.stored.proofs.First.{first-ext, search-first}
+use Rattle.cubes.proofs.First.{first-ext, search-first}
 use Rattle.cubes.proofs.Steps.{run-step}
 use Rattle.cubes.proofs.Buffered.{latches-counted, next-counted, cubes-sized}
 use Rattle.cubes.specs.Buffer.{cubeBytes, packCubes, packCube, cubeOf}

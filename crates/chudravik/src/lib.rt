@@ -2,11 +2,14 @@
 use circuit::Counts;
 use cubes::RunAnswer;
 use reader::ReadAnswer;
+use sent::CoverAnswer;
 use writer::WriteAnswer;
 ghost use Rattle.tick.specs.Tick.{Ticked};
 ghost use Rattle.text.specs.Calls.{Reading, Writing};
 ghost use Rattle.cubes.specs.Call.{Runs};
 ghost use Rattle.cubes.specs.Promise.{Promises};
+ghost use Rattle.sent.specs.Call.{Sent};
+ghost use Rattle.sent.specs.Promise.{Keeps};
 
 #[no_mangle]
 pub extern "C" fn chudravik_read(text: &[u8], table: &mut [u16]) -> ReadAnswer
@@ -48,4 +51,17 @@ pub extern "C" fn chudravik_run(
     ensures { λ r. ⌜ Runs (record { counts = counts; table = now (table .entry); w = w; cubes = now (cubes .entry); verdict = now (verdict .entry); settled = now (settled .entry) }) r (now (cubes .exit)) (now (verdict .exit)) (now (settled .exit)) × Promises (record { counts = counts; table = now (table .entry); w = w; cubes = now (cubes .entry); verdict = now (verdict .entry); settled = now (settled .entry) }) r (now (cubes .exit)) (now (verdict .exit)) (now (settled .exit)) ⌝ }
 {
     run::run(counts, table, w, cubes, verdict, settled)
+}
+
+#[no_mangle]
+pub extern "C" fn chudravik_cover(
+    counts: Counts,
+    table: &[u16],
+    cubes: &[u8],
+    n: usize,
+    verdict: &mut [u8],
+) -> CoverAnswer
+    ensures { λ r. ⌜ Sent (record { counts = counts; table = now (table .entry); cubes = now (cubes .entry); n = n; verdict = now (verdict .entry) }) r (now (verdict .exit)) × Keeps (record { counts = counts; table = now (table .entry); cubes = now (cubes .entry); n = n; verdict = now (verdict .entry) }) r (now (verdict .exit)) ⌝ }
+{
+    sent::cover(counts, table, cubes, n, verdict)
 }

@@ -1,16 +1,18 @@
 -- The test of given cubes says that there is a cover: the first cube over the start, and for each cube the first over its next state. Where there is
 -- any cover the test passes, so a run's own cubes do. Assumes nothing.
-use mathlib.Core.Path.{_≡_, refl, sym, _∙_}
-use mathlib.Core.Bool.{true, false, false≢true, true≢false}
+use mathlib.Core.Path.{_≡_, refl, sym, ap, _∙_}
+use mathlib.Core.Bool.{true, false, not, false≢true, true≢false}
 use Prim.Native.Nat.{ℕ, _<_, _≤_}
 use native.Mathlib.Omega.{arith}
 use Rattle.three.specs.Lists.{every}
 use Rattle.three.specs.Cube.{Cube, subsumes}
-use Rattle.three.proofs.Lists.{every-at, every-all}
+use borrow.Author.Tests.{not-false}
+use Rattle.three.proofs.Lists.{by-test, every-at, every-all}
 use Rattle.circuit.specs.Circuit.{Circuit}
 use Rattle.circuit.specs.RulesInCode.{Passed}
 use Rattle.cubes.specs.Run.{nextCube, start, cubeAt, Found, at, nowhere, search, stops, run}
-use Rattle.cubes.specs.Given.{covered, nextCovered, coverTests}
+use Rattle.cubes.specs.Given.{covered, nextCovered, coverTests, firstUncovered}
+use Rattle.cubes.proofs.First.{first-at, first-none, first-nowhere}
 use Rattle.cubes.proofs.Steps.{Searched, searched, found, none-at-all}
 use Rattle.cubes.proofs.Cover.{Cover, chain-cover}
 use Rattle.cubes.proofs.Promise.{run-chain}
@@ -52,6 +54,27 @@ module _ (c : Circuit) (cubes : ℕ → Cube) (n : ℕ) where
   cover-test cover =
       let starts = cover .starts in
       (found-covered (start c) _ (starts .0) (starts .1), (every-all n (nextCovered c cubes n) (λ k h. let there = cover .follows k h in found-covered (nextCube c (cubes k)) _ (there .0) (there .1)), tt))
+
+-- ---- the number that 18 names
+
+module _ (c : Circuit) (cubes : ℕ → Cube) (n : ℕ) where
+  pub uncovered-at : (k : ℕ) → k < n → ((m : ℕ) → m < k → nextCovered c cubes n m ≡ true) → nextCovered c cubes n k ≡ false → k ≡ firstUncovered c cubes n
+  unfolding firstUncovered
+  uncovered-at k h before e = sym (first-at n _ k h (ap not e) (λ m l. ap not (before m l)))
+
+  pub uncovered-none : ((m : ℕ) → m < n → nextCovered c cubes n m ≡ true) → n ≡ firstUncovered c cubes n
+  unfolding firstUncovered
+  uncovered-none all = sym (first-none n _ (λ m l. ap not (all m l)))
+
+  -- it is a number below n exactly where one of them is not covered
+  pub uncovered-fails : firstUncovered c cubes n < n → every n (nextCovered c cubes n) ≡ false
+  uncovered-fails h = by-test (every n (nextCovered c cubes n)) (λ t. absurd (omega (arith, uncovered-none (every-at n (nextCovered c cubes n) t)))) (λ f. f)
+
+  pub uncovered-passes : n ≤ firstUncovered c cubes n → every n (nextCovered c cubes n) ≡ true
+  unfolding firstUncovered
+  uncovered-passes h = every-all n _ (λ m l. not-false _ (first-nowhere n (λ k. not (nextCovered c cubes n k)) h m l))
+
+-- ---- a run's own cubes
 
 -- a cover is one by its n cubes alone
 pub cover-same : (c : Circuit) (f f′ : ℕ → Cube) (n : ℕ) → ((k : ℕ) → k < n → f k ≡ f′ k) → {origin : ℕ} {follow : ℕ → ℕ} → Cover c f n origin follow → Cover c f′ n origin follow

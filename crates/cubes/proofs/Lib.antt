@@ -1,4 +1,5 @@
 pub mod Steps
+pub mod First
 pub mod Wider
 pub mod Growing
 pub mod Closes

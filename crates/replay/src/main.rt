@@ -5,6 +5,7 @@
 //   write I L O A WORDS w.. BYTES                              the table; a text buffer of BYTES bytes
 //   tick I L O A WORDS w.. STATE b.. SWITCHES b.. NEXT LAMPS   the table, two records; the lengths of the results
 //   run I L O A WORDS w.. W CUBES VERDICT SETTLED              the table; the interval; the lengths of the results
+//   cover I L O A WORDS w.. CUBES b.. N VERDICT                the table, the cubes, their number; the result's length
 //
 // In TEXT `/` stands for byte 10, and `\hh` for any byte; what goes beyond BYTES is cut. A list, w.. or b.., has its
 // length in front of it. Each buffer that is lent has 0xFF in every byte. In an answer equal elements that follow each
@@ -321,6 +322,64 @@ fn run_vector(line: &[u8]) {
     run_given(counts, &table, circuit.words, w.value, lent);
 }
 
+// ---- cover
+
+fn show_cover(counts: Counts, table: &[u16], cubes: &[u8], n: usize, verdict: &mut [u8]) {
+    let answer = sent::cover(counts, table, cubes, n, verdict);
+    say_number(b"cover number ", answer.number as usize);
+    say_number(b" cube ", answer.cube);
+    say_bytes(b"; verdict", verdict);
+    say(b"\n");
+}
+
+// What a cover is given and lent, by its length, and the number of cubes.
+struct CoverGiven {
+    words: usize,
+    cubes: usize,
+    n: usize,
+    verdict: usize,
+}
+
+fn cover_given(counts: Counts, given: CoverGiven, table: &[u16], cubes: &[u8]) {
+    let mut verdict = [UNTOUCHED; MOST_BYTES];
+    let words = words_within(given.words, table);
+    let cubes_bytes = bytes_within(given.cubes, cubes);
+    let verdict_bytes = bytes_within(given.verdict, &verdict);
+    if words < given.words || cubes_bytes < given.cubes || verdict_bytes < given.verdict {
+        too_large();
+        return;
+    }
+    show_cover(
+        counts,
+        &table[..words],
+        &cubes[..cubes_bytes],
+        given.n,
+        &mut verdict[..verdict_bytes],
+    );
+}
+
+fn cover_vector(line: &[u8]) {
+    let mut table = [0u16; MOST_WORDS];
+    let mut cubes = [0u8; MOST_BYTES];
+    let circuit = circuit_at(line, 6, &mut table);
+    let cubes_bytes = vector::next(line, circuit.behind);
+    let behind_cubes = vector::bytes(line, cubes_bytes, &mut cubes);
+    let n = vector::next(line, behind_cubes);
+    let verdict = vector::next(line, n);
+    if !vector::ends(line, verdict) {
+        not_a_vector();
+        return;
+    }
+    let given = CoverGiven {
+        words: circuit.words,
+        cubes: cubes_bytes.value,
+        n: n.value,
+        verdict: verdict.value,
+    };
+    let counts = circuit.counts;
+    cover_given(counts, given, &table, &cubes);
+}
+
 // ---- the list
 
 // The counts, the length of the table, whose words go into the table that is lent, and where the line goes on.
@@ -362,6 +421,8 @@ fn answer(line: &[u8]) {
         tick_vector(line);
     } else if vector::opens(line, b"run ") {
         run_vector(line);
+    } else if vector::opens(line, b"cover ") {
+        cover_vector(line);
     } else {
         not_a_vector();
     }

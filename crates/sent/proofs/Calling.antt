@@ -4,13 +4,13 @@ use mathlib.Core.Bool.{true, false, not, cond}
 use mathlib.Core.List.{List, [], _∷_, _++_}
 use Prim.Native.Nat.{ℕ, _+_, _<_, _≤_}
 use native.Mathlib.Omega.{arith}
-use borrow.Author.Tests.{not-false, ne-eqb}
+use borrow.Author.Tests.{ne-eqb}
 use lib.Dec.{eqb}
 use lib.ListN.{length, take, drop}
 use lib.Seq.{paste, take-at}
 use Rattle.three.specs.Lists.{every, over}
 use Rattle.three.specs.Record.{bytesFor, pack}
-use Rattle.three.proofs.Lists.{by-test, every-at, every-all}
+use Rattle.three.proofs.Lists.{by-test, every-at}
 use Rattle.three.proofs.Pack.{length-pack}
 use Rattle.circuit.specs.Refusal.{Test, refusal}
 use Rattle.circuit.specs.Table.{ceilingTests, wordTests, boardTests, circuitOf}
@@ -19,7 +19,7 @@ use Rattle.cubes.specs.Run.{start}
 use Rattle.cubes.specs.Buffer.{cubeIn}
 use Rattle.cubes.specs.Given.{cubeTests, covered, nextCovered, firstUncovered}
 use Rattle.cubes.proofs.Buffered.{verdict-sized}
-use Rattle.stored.proofs.First.{first-none, first-nowhere}
+use Rattle.cubes.proofs.Covering.{uncovered-none, uncovered-fails, uncovered-passes}
 use Rattle.sent.specs.Call.{SentGiven, circuitIn, cubesIn, sentTests, verdictFields, Sent}
 use Rattle.sent.specs.SentInCode.{givenTests, Walked}
 use Rattle.sent.proofs.Refusing.{given-refuses, start-outside, next-outside, verdict-short, sent-passes}
@@ -70,17 +70,12 @@ module _ (g : SentGiven) where
           cube-is = walked .names
 
           pub next-refused : cube < g .n → Sent g (record { number = 18; cube = cube }) (g .verdict)
-          unfolding circuitIn cubesIn firstUncovered
-          next-refused h =
-              let fails = by-test (every (g .n) (nextCovered (circuitIn g) (cubesIn g) (g .n)))
-              (λ t. absurd (let none = first-none (g .n) _ (λ m l. ap not (every-at (g .n) (nextCovered (circuitIn g) (cubesIn g) (g .n)) t m l)) in omega (arith, cube-is)))
-              (λ f. f) in
-              refused (next-outside g passed starts fails) (λ z. omega arith) cube-is
+          unfolding circuitIn cubesIn
+          next-refused h = refused (next-outside g passed starts (uncovered-fails _ _ (g .n) (rw cube-is at h))) (λ z. omega arith) cube-is
 
           module _ (all : g .n ≤ cube) where
             follows : every (g .n) (nextCovered (circuitIn g) (cubesIn g) (g .n)) ≡ true
-            unfolding firstUncovered
-            follows = every-all (g .n) _ (λ m l. not-false _ (first-nowhere (g .n) (λ k. not (nextCovered (circuitIn g) (cubesIn g) (g .n) k)) (rw cube-is at all) m l))
+            follows = uncovered-passes _ _ (g .n) (rw cube-is at all)
 
             pub verdict-refused : length (g .verdict) < bytesFor (g .counts .lamps) → Sent g (record { number = 10; cube = 0 }) (g .verdict)
             unfolding circuitIn cubesIn
@@ -89,8 +84,7 @@ module _ (g : SentGiven) where
             -- ---- accepted
 
             whole : cube ≡ g .n
-            unfolding firstUncovered
-            whole = cube-is ∙ first-none (g .n) _ (λ m l. ap not (every-at (g .n) (nextCovered (circuitIn g) (cubesIn g) (g .n)) follows m l))
+            whole = cube-is ∙ sym (uncovered-none _ _ (g .n) (every-at (g .n) (nextCovered (circuitIn g) (cubesIn g) (g .n)) follows))
 
             pub lamps-are : lamps′ ≡ over (pack (verdictFields g)) lamps
             unfolding verdictFields circuitIn cubesIn

@@ -16,10 +16,10 @@ use Rattle.circuit.specs.Circuit.{Circuit}
 use Rattle.circuit.specs.Table.{circuitOf}
 use Rattle.cubes.specs.Run.{nextCube, lampsIn}
 use Rattle.cubes.specs.Buffer.{cubeOf, cubeIn}
-use Rattle.cubes.specs.Given.{covered, nextCovered, firstUncovered}
+use Rattle.cubes.specs.Given.{covered, nextCovered}
 use Rattle.cubes.proofs.StoredCube.{cube-at}
 use Rattle.stored.specs.CubesInCode.{SwitchesX}
-use Rattle.stored.proofs.First.{first-at, first-none}
+use Rattle.cubes.proofs.Covering.{uncovered-at, uncovered-none}
 use Rattle.judge.specs.JudgeInCode.{Judgeable}
 use Rattle.judge.proofs.Lamps.{Judged, judged-first, judged-record, judged-length, judged-next, judged-last, lamps-record, lamps-length}
 use Rattle.sent.specs.SentInCode.{Sendable, Walked}
@@ -32,82 +32,83 @@ module _ (c : Counts) (words : List ℕ) (len n : ℕ) (cubes : List ℕ) where
   abbrev pub inside : ℕ → Bool
   inside k = nextCovered circuit (cubeIn (c .latches) cubes) n k
 
+  pub judgeable : Sendable c words len n cubes → 1 ≤ n → Judgeable c words len n cubes
+  judgeable s some = record { legal = s .legal; size = s .stand .size; some = some; fits = s .stand .fits; cube = s .stand .cube }
+
   -- the loop's invariant, from what the verdict's buffer held where it begins
   pub record Passing (begun verdict values lamps : List ℕ) (k : ℕ) : Type 0 where
+    pub given : Judgeable c words len n cubes
     pub ready : SwitchesX c values
     pub judged : Judged c words cubes begun verdict k
     pub long : length lamps ≡ 16
     pub within : k ≤ n
     pub passed : (m : ℕ) → m < k → inside m ≡ true
 
-  module _ (s : Sendable c words len n cubes) (some : 1 ≤ n) where
-    pub judgeable : Judgeable c words len n cubes
-    judgeable = record { legal = s .legal; size = s .stand .size; some = some; fits = s .stand .fits; cube = s .stand .cube }
-
+  module _ (j : Judgeable c words len n cubes) where
     -- as the code asks it, at the byte where the cube stands
     asked : (k : ℕ) {r : Bool} → r ≡ covered circuit (cubeIn (c .latches) cubes) n (nextCube circuit (cubeOf (c .latches) (drop (k * len) cubes))) → r ≡ inside k
     unfolding nextCovered
-    asked k e = e ∙ ap (λ v. covered circuit (cubeIn (c .latches) cubes) n (nextCube circuit v)) (cube-at (c .latches) (s .stand .size) cubes k)
+    asked k e = e ∙ ap (λ v. covered circuit (cubeIn (c .latches) cubes) n (nextCube circuit v)) (cube-at (c .latches) (j .size) cubes k)
 
-    asked-first : {r : Bool} → r ≡ covered circuit (cubeIn (c .latches) cubes) n (nextCube circuit (cubeOf (c .latches) cubes)) → r ≡ inside 0
-    asked-first e = asked 0 (rw zero-mul e)
+    module _ {r : Bool} (e : r ≡ covered circuit (cubeIn (c .latches) cubes) n (nextCube circuit (cubeOf (c .latches) cubes))) where
+      asked-first : r ≡ inside 0
+      asked-first = asked 0 (rw zero-mul e)
 
-    -- the first that does not lie inside
-    names : (k : ℕ) → k < n → ((m : ℕ) → m < k → inside m ≡ true) → inside k ≡ false → k ≡ firstUncovered circuit (cubeIn (c .latches) cubes) n
-    unfolding firstUncovered
-    names k h before e = sym (first-at n _ k h (ap not e) (λ m l. ap not (before m l)))
+      pub walked-none : r ≡ false → (entry : List ℕ) {verdict : List ℕ} → Walked c words cubes n entry 0 verdict
+      walked-none f entry = record { names = uncovered-at _ _ n 0 (j .some) (λ m l. absurd (not-suc-le-zero l)) (sym asked-first ∙ f); judges = λ z. absurd (omega (arith, j .some)) }
 
-    module _ (entry : List ℕ) (fits : bytesFor (c .lamps) ≤ length entry) where
-      pub walked-none : {r : Bool} {verdict : List ℕ} → r ≡ covered circuit (cubeIn (c .latches) cubes) n (nextCube circuit (cubeOf (c .latches) cubes)) → r ≡ false → Walked c words cubes n entry 0 verdict
-      walked-none e f = record { names = names 0 (omega arith) (λ m l. absurd (not-suc-le-zero l)) (sym (asked-first e) ∙ f); judges = λ z. absurd (omega arith) }
+  module _ (entry : List ℕ) (fits : bytesFor (c .lamps) ≤ length entry) (begun : List ℕ) (first : begun ≡ over (pack (lampsIn circuit (cubeOf (c .latches) cubes))) entry) where
+    pub passing-first : (j : Judgeable c words len n cubes) {r : Bool} → r ≡ covered circuit (cubeIn (c .latches) cubes) n (nextCube circuit (cubeOf (c .latches) cubes)) → r ≡ true → (values lamps : List ℕ)
+        → SwitchesX c values → length lamps ≡ 16 → Passing begun begun values lamps 1
+    passing-first j e f values lamps ready long = record {
+      given = j;
+      ready = ready;
+      judged = judged-first c words len n cubes j entry fits begun first;
+      long = long;
+      within = j .some;
+      passed = below-more _ 0 (λ m l. absurd (not-suc-le-zero l)) (sym (asked-first j e) ∙ f);
+    }
 
-      module _ (begun : List ℕ) (first : begun ≡ over (pack (lampsIn circuit (cubeOf (c .latches) cubes))) entry) where
-        pub passing-first : {r : Bool} → r ≡ covered circuit (cubeIn (c .latches) cubes) n (nextCube circuit (cubeOf (c .latches) cubes)) → r ≡ true → (values lamps : List ℕ) → SwitchesX c values → length lamps ≡ 16
-            → Passing begun begun values lamps 1
-        passing-first e f values lamps ready long = record {
-          ready = ready;
-          judged = judged-first c words len n cubes judgeable entry fits begun first;
-          long = long;
-          within = some;
-          passed = below-more _ 0 (λ m l. absurd (not-suc-le-zero l)) (sym (asked-first e) ∙ f);
-        }
+    pub begun-long : Judgeable c words len n cubes → length begun ≡ length entry
+    begun-long j = judged-length c words len n cubes j entry fits begun first begun 1 (judged-first c words len n cubes j entry fits begun first)
 
-        pub begun-long : length begun ≡ length entry
-        begun-long = judged-length c words len n cubes judgeable entry fits begun first begun 1 (judged-first c words len n cubes judgeable entry fits begun first)
+    module _ {verdict values lamps : List ℕ} {k : ℕ} (p : Passing begun verdict values lamps k) where
+      abbrev j : Judgeable c words len n cubes
+      j = p .given
 
-        module _ (verdict values lamps : List ℕ) (k : ℕ) (p : Passing begun verdict values lamps k) where
-          pub verdict-long : length verdict ≡ length entry
-          verdict-long = judged-length c words len n cubes judgeable entry fits begun first verdict k (p .judged)
+      pub verdict-long : length verdict ≡ length entry
+      verdict-long = judged-length c words len n cubes j entry fits begun first verdict k (p .judged)
 
-          pub walked-part : k < n → {r : Bool} {verdict′ : List ℕ} → r ≡ covered circuit (cubeIn (c .latches) cubes) n (nextCube circuit (cubeOf (c .latches) (drop (k * len) cubes))) → r ≡ false
-              → Walked c words cubes n entry k verdict′
-          walked-part h e f = record { names = names k h (p .passed) (sym (asked k e) ∙ f); judges = λ z. absurd (omega arith) }
+      pub walked-all : n ≤ k → Walked c words cubes n entry n verdict
+      walked-all h =
+          let whole : k ≡ n = omega (arith, p .within) in
+          record {
+            names = uncovered-none _ _ n (λ m l. p .passed m (omega arith));
+            judges = λ z. judged-last c words len n cubes j entry fits begun first verdict k (p .judged) whole;
+          }
 
-          pub walked-all : n ≤ k → Walked c words cubes n entry n verdict
-          unfolding firstUncovered
-          walked-all h =
-              let whole : k ≡ n = omega (arith, p .within) in
-              record {
-                names = sym (first-none n _ (λ m l. ap not (p .passed m (omega arith))));
-                judges = λ z. judged-last c words len n cubes judgeable entry fits begun first verdict k (p .judged) whole;
-              }
+      -- one cube more
+      module _ (h : k < n) {r : Bool} (e : r ≡ covered circuit (cubeIn (c .latches) cubes) n (nextCube circuit (cubeOf (c .latches) (drop (k * len) cubes)))) where
+        pub walked-part : r ≡ false → {verdict′ : List ℕ} → Walked c words cubes n entry k verdict′
+        walked-part f = record { names = uncovered-at _ _ n k h (p .passed) (sym (asked j k e) ∙ f); judges = λ z. absurd (omega arith) }
 
-          module _ (h : k < n) (lamps′ : List ℕ) (read : lamps′ ≡ over (pack (lampsIn circuit (cubeOf (c .latches) (drop (k * len) cubes)))) lamps) where
-            wide : bytesFor (c .lamps) ≤ length lamps
-            wide = omega (arith, p .long, s .legal .bounded .lamps)
+        module _ (lamps′ : List ℕ) (read : lamps′ ≡ over (pack (lampsIn circuit (cubeOf (c .latches) (drop (k * len) cubes)))) lamps) where
+          wide : bytesFor (c .lamps) ≤ length lamps
+          wide = omega (arith, p .long, j .legal .bounded .lamps)
 
-            pub lamps-long : length lamps′ ≡ 16
-            lamps-long = lamps-length c words len n cubes judgeable entry fits begun first k lamps lamps′ wide read ∙ p .long
+          pub lamps-long : length lamps′ ≡ 16
+          lamps-long = lamps-length c words len n cubes j entry fits begun first k lamps lamps′ wide read ∙ p .long
 
-            pub both-records : IsRecord (c .lamps) verdict × IsRecord (c .lamps) lamps′
-            both-records = (judged-record c words len n cubes judgeable entry fits begun first verdict k (p .judged), lamps-record c words len n cubes judgeable entry fits begun first k lamps lamps′ wide read)
+          pub both-records : IsRecord (c .lamps) verdict × IsRecord (c .lamps) lamps′
+          both-records = (judged-record c words len n cubes j entry fits begun first verdict k (p .judged), lamps-record c words len n cubes j entry fits begun first k lamps lamps′ wide read)
 
-            pub passing-next : {r : Bool} → r ≡ covered circuit (cubeIn (c .latches) cubes) n (nextCube circuit (cubeOf (c .latches) (drop (k * len) cubes))) → r ≡ true → (verdict′ values′ : List ℕ)
-                → verdict′ ≡ over (pack (merged (unpack (c .lamps) verdict) (unpack (c .lamps) lamps′))) verdict → SwitchesX c values′ → Passing begun verdict′ values′ lamps′ (k + 1)
-            passing-next e f verdict′ values′ merges ready = record {
-              ready = ready;
-              judged = judged-next c words len n cubes judgeable entry fits begun first k lamps lamps′ wide read verdict verdict′ (p .judged) merges;
-              long = lamps-long;
-              within = omega arith;
-              passed = below-more _ k (p .passed) (sym (asked k e) ∙ f);
-            }
+          pub passing-next : r ≡ true → (verdict′ values′ : List ℕ) → verdict′ ≡ over (pack (merged (unpack (c .lamps) verdict) (unpack (c .lamps) lamps′))) verdict → SwitchesX c values′
+              → Passing begun verdict′ values′ lamps′ (k + 1)
+          passing-next f verdict′ values′ merges ready = record {
+            given = j;
+            ready = ready;
+            judged = judged-next c words len n cubes j entry fits begun first k lamps lamps′ wide read verdict verdict′ (p .judged) merges;
+            long = lamps-long;
+            within = omega arith;
+            passed = below-more _ k (p .passed) (sym (asked j k e) ∙ f);
+          }

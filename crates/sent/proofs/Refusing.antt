@@ -20,7 +20,7 @@ use Rattle.cubes.proofs.Given.{cubes-numbered, cubes-given, cubes-stand}
 use Rattle.cubes.specs.Buffer.{cubeBytes}
 use Rattle.sent.specs.SentInCode.{givenTests, Sendable}
 use Rattle.cubes.specs.Given.{cubeTests, covered, nextCovered, coverTests}
-use Rattle.sent.specs.Call.{SentGiven, circuitIn, cubesIn, sentTests}
+use Rattle.sent.specs.Call.{SentGiven, circuitIn, cubesIn, verdictTests, sentTests}
 
 -- what holds before the cubes are looked into
 pub sendable : (c : Counts) (table cubes : List ℕ) (n : ℕ) → 0 ≡ refusal (givenTests c table cubes n) → Sendable c table (cubeBytes (c .latches)) n cubes
@@ -63,11 +63,11 @@ module _ (g : SentGiven) where
 
       module _ (follows : every (g .n) (nextCovered (circuitIn g) (cubesIn g) (g .n)) ≡ true) where
         pub verdict-short : length (g .verdict) < bytesFor (g .counts .lamps) → 10 ≡ number
-        unfolding sentTests coverTests
+        unfolding sentTests coverTests verdictTests
         verdict-short h = past-given _ (past _ _ starts (past _ _ follows (stops _ _ (lt-leb (bytesFor (g .counts .lamps)) (length (g .verdict)) h))))
 
         pub sent-passes : bytesFor (g .counts .lamps) ≤ length (g .verdict) → 0 ≡ number
-        unfolding sentTests coverTests
+        unfolding sentTests coverTests verdictTests
         sent-passes h = past-given _ (past _ _ starts (past _ _ follows (past _ _ (le-leb (bytesFor (g .counts .lamps)) (length (g .verdict)) h) none)))
 
   covers-numbered : Numbered (coverTests (circuitIn g) (cubesIn g) (g .n))

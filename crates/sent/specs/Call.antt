@@ -33,11 +33,13 @@ module _ (g : SentGiven) where
   unfoldable pub cubesIn : ℕ → Cube
   cubesIn = cubeIn (g .counts .latches) (g .cubes)
 
+  -- 10 for the verdict
+  unfoldable pub verdictTests : List Test
+  verdictTests = leb (bytesFor (g .counts .lamps)) (length (g .verdict)) or 10 ∷ []
+
   -- 3, 10 for the table, 11, 10 for the cubes, 14, 17, 18, 10 for the verdict
   unfoldable pub sentTests : List Test
-  sentTests =
-      boardTests (g .counts) (g .table) ++ (cubeTests (g .counts) (g .cubes) (g .n)
-      ++ (coverTests circuitIn cubesIn (g .n) ++ (leb (bytesFor (g .counts .lamps)) (length (g .verdict)) or 10 ∷ [])))
+  sentTests = boardTests (g .counts) (g .table) ++ (cubeTests (g .counts) (g .cubes) (g .n) ++ (coverTests circuitIn cubesIn (g .n) ++ verdictTests))
 
   -- the verdict by the run's rule, over all n cubes
   unfoldable pub verdictFields : Cube

@@ -15,7 +15,7 @@ use Rattle.cubes.specs.Run.{switchesUnknown, nextCube, lampsIn, startField, res
 use Rattle.cubes.specs.Buffer.{cubeBytes, cubeOf, soundCube, cubeIn, soundIn}
 use Rattle.cubes.specs.Call.{roomIn}
 use Rattle.cubes.specs.Given.{first, cubeTests, covered, nextCovered, coverTests, firstUncovered}
-use Rattle.sent.specs.Call.{SentGiven, circuitIn, cubesIn, sentTests, verdictFields}
+use Rattle.sent.specs.Call.{SentGiven, circuitIn, cubesIn, verdictTests, sentTests, verdictFields}
 
 -- S, with these cubes
 abbrev sends : List ℕ → ℕ → SentGiven
@@ -28,7 +28,7 @@ sends cubes n = record {
 }
 
 unfoldable pub answered : SentGiven → List ℕ
-unfolding tabulate every adjust over code decode both inverse ternary alike allows subsumes blank agree merged byteOf byteAt pack pairs pairAt unpack bad leftover sound signed value pass settle readings refusal allHold leftBy ceilingTests several kinds width rowTests tableTests circuitOf wordTests boardTests switchesUnknown nextCube lampsIn startField resets start search merge mergeFrom verdict cubeBytes cubeOf soundCube cubeIn soundIn roomIn first cubeTests covered nextCovered coverTests firstUncovered circuitIn cubesIn sentTests verdictFields
+unfolding tabulate every adjust over code decode both inverse ternary alike allows subsumes blank agree merged byteOf byteAt pack pairs pairAt unpack bad leftover sound signed value pass settle readings refusal allHold leftBy ceilingTests several kinds width rowTests tableTests circuitOf wordTests boardTests switchesUnknown nextCube lampsIn startField resets start search merge mergeFrom verdict cubeBytes cubeOf soundCube cubeIn soundIn roomIn first cubeTests covered nextCovered coverTests firstUncovered circuitIn cubesIn verdictTests sentTests verdictFields
 answered g =
     let number : ℕ = refusal (sentTests g) in
     number ∷ cond (eqb number 18) (firstUncovered (circuitIn g) (cubesIn g) (g .n)) 0 ∷ leftBy number (over (pack (verdictFields g)) (g .verdict)) (g .verdict)

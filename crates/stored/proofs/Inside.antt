@@ -19,7 +19,7 @@ use Rattle.cubes.specs.BufferInCode.{Cubes}
 use Rattle.cubes.specs.Given.{first, covered}
 use Rattle.cubes.proofs.StoredCube.{cube-at, cube-pack, cube-long, cube-repacked, cube-in-sized, cube-covers, Bytes}
 use Rattle.stored.specs.CubesInCode.{coversFrom}
-use Rattle.stored.proofs.First.{first-ext, search-first}
+use Rattle.cubes.proofs.First.{first-ext, search-first}
 
 -- the bytes of a cube that was stored at the front of a buffer
 pub front-bytes : {latches : ℕ} (v : Cube) → length v ≡ latches → (d : List ℕ) → Bytes latches (λ i. getD (over (packCube v) d) i 0) v

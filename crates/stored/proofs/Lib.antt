@@ -1,6 +1,5 @@
 pub mod Starting
 pub mod Keeping
-pub mod First
 pub mod Searching
 pub mod Reaching
 pub mod Judged

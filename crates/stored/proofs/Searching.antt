@@ -15,7 +15,7 @@ use Rattle.three.proofs.Lists.{every-all, every-fails}
 use Rattle.three.proofs.Loops.{Tried, tried-first, tried-next}
 use Rattle.cubes.specs.Given.{first}
 use Rattle.stored.specs.CubesInCode.{coversFrom}
-use Rattle.stored.proofs.First.{first-at, first-none}
+use Rattle.cubes.proofs.First.{first-at, first-none}
 
 module _ (cubes b : List ℕ) (len n : ℕ) where
   -- byte i of the record at `at` has no bit that b's has not

@@ -6,7 +6,7 @@ use borrow.Author.Tests.{not-true, not-false}
 use Rattle.pass.proofs.Values.{fresh-begins}
 use Rattle.cubes.proofs.Storing.{cube-place}
 use Rattle.sent.proofs.Walking.{of-length}
-use Rattle.sent.proofs.Passing.{Passing, begun-long, walked-none, passing-first, verdict-long, walked-part, lamps-long, both-records, passing-next, walked-all}
+use Rattle.sent.proofs.Passing.{judgeable, Passing, begun-long, walked-none, passing-first, verdict-long, walked-part, lamps-long, both-records, passing-next, walked-all}
 use native.Mathlib.Omega.{arith}
 use Rattle.sent.proofs.first_uncovered.Statement.{statement}
 use Rattle.sent.proofs.first_uncovered.Tie as tie
@@ -26,98 +26,72 @@ fresh-values-requires c κs = tt
 next-inside-requires : tie.Need-next-inside-requires Inv-loop μ-loop
 next-inside-requires c κs =
     let start = c .before .before .before .before .before .before .before in
-    let pre = start .pre in
-    let s = of-length _ _ _ _ (pre .0) (c .before .before .before .cube-bytes .ensures) in
-    (s, omega arith, rw zero-mul at (s .stand .cube 0 (pre .1)), fresh-begins _ (start .args .counts .inputs) (omega (arith, s .legal .bounded .inputs)) (c .before .before .fresh-values .ensures), pre .2)
+    let s = of-length _ _ _ _ (start .pre .0) (c .before .before .before .cube-bytes .ensures) in
+    (s, omega arith, rw zero-mul at (s .stand .cube 0 (start .pre .1)), fresh-begins _ (start .args .counts .inputs) (omega (arith, s .legal .bounded .inputs)) (c .before .before .fresh-values .ensures), start .pre .2)
 
 same-length : tie.Need-same-length Inv-loop μ-loop
 same-length c =
     let start = c .before .before .before .before .before .before .before .before .before .before .before in
-    let pre = start .pre in
-    let s = of-length _ _ _ _ (pre .0) (c .before .before .before .before .before .before .before .cube-bytes .ensures) in
-    begun-long _ _ _ _ _ s (pre .1) (start .args .verdict .now) (pre .2) _ (c .before .before .before .next-inside .ensures .2)
+    let s = of-length _ _ _ _ (start .pre .0) (c .before .before .before .before .before .before .before .cube-bytes .ensures) in
+    begun-long _ _ _ _ _ (start .args .verdict .now) (start .pre .2) _ (c .before .before .before .next-inside .ensures .2) (judgeable _ _ _ _ _ s (start .pre .1))
 
 returns : tie.Need-returns Inv-loop μ-loop
 returns c =
     let start = c .before .before .before .before .before .before .before .before .before .before .before in
-    let pre = start .pre in
-    let s = of-length _ _ _ _ (pre .0) (c .before .before .before .before .before .before .before .cube-bytes .ensures) in
-    walked-none _ _ _ _ _ s (pre .1) _ (pre .2) (c .before .before .before .next-inside .ensures .0) (not-true _ (c .if1 .taken))
+    let s = of-length _ _ _ _ (start .pre .0) (c .before .before .before .before .before .before .before .cube-bytes .ensures) in
+    walked-none _ _ _ _ _ (judgeable _ _ _ _ _ s (start .pre .1)) (c .before .before .before .next-inside .ensures .0) (not-true _ (c .if1 .taken)) _
 
 loop-holds : tie.Need-loop-holds Inv-loop μ-loop
 loop-holds c =
     let start = c .before .before .before .before .before .before .before .before .before .before .before in
-    let pre = start .pre in
-    let s = of-length _ _ _ _ (pre .0) (c .before .before .before .before .before .before .before .cube-bytes .ensures) in
+    let s = of-length _ _ _ _ (start .pre .0) (c .before .before .before .before .before .before .before .cube-bytes .ensures) in
     let inside = c .before .before .before .next-inside .ensures in
-    passing-first _ _ _ _ _ s (pre .1) (start .args .verdict .now) (pre .2) _ (inside .2) (inside .0) (not-false _ (c .if1 .left)) _ _ (inside .1) refl
+    passing-first _ _ _ _ _ (start .args .verdict .now) (start .pre .2) _ (inside .2) (judgeable _ _ _ _ _ s (start .pre .1)) (inside .0) (not-false _ (c .if1 .left)) _ _ (inside .1) refl
 
 mul-next-inside : tie.Need-mul-next-inside Inv-loop μ-loop
-mul-next-inside c =
-    let at = c .before in
-    let start = at .before .before .before .before .before .before .before .before .before .before .before .before in
-    let pre = start .pre in
-    let s = of-length _ _ _ _ (pre .0) (at .before .before .before .before .before .before .before .before .cube-bytes .ensures) in
-    let first = at .before .before .before .before .next-inside .ensures .2 in
-    let inv = at .loop .inv in
-    omega (arith, cube-place _ _ _ _ (c .loop-test .taken) (s .stand .fits), start .good)
+mul-next-inside c = omega (arith, cube-place _ _ _ _ (c .loop-test .taken) (c .before .loop .inv .given .fits), c .before .before .before .before .before .before .before .before .before .before .before .before .before .good)
 
 slice-aggregate-next-inside : tie.Need-slice-aggregate-next-inside Inv-loop μ-loop
 slice-aggregate-next-inside c = sym (c .before .before .before .loop .inv .long)
 
 next-inside-requires-2 : tie.Need-next-inside-requires-2 Inv-loop μ-loop
 next-inside-requires-2 c κs =
-    let at = c .before .before .before in
-    let start = at .before .before .before .before .before .before .before .before .before .before .before .before in
-    let pre = start .pre in
-    let s = of-length _ _ _ _ (pre .0) (at .before .before .before .before .before .before .before .before .cube-bytes .ensures) in
-    let first = at .before .before .before .before .next-inside .ensures .2 in
-    let inv = at .loop .inv in
+    let inv = c .before .before .before .loop .inv in
     let h = c .before .before .loop-test .taken in
-    (s, omega (arith, cube-place _ _ _ _ h (s .stand .fits)), s .stand .cube _ h, inv .ready, omega (arith, inv .long, s .legal .bounded .lamps))
+    (of-length _ _ _ _ (c .before .before .before .before .before .before .before .before .before .before .before .before .before .before .before .pre .0) (c .before .before .before .before .before .before .before .before .before .before .before .cube-bytes .ensures), omega (arith, cube-place _ _ _ _ h (inv .given .fits)), inv .given .cube _ h, inv .ready, omega (arith, inv .long, inv .given .legal .bounded .lamps))
 
 same-length-2 : tie.Need-same-length-2 Inv-loop μ-loop
 same-length-2 c =
     let at = c .before .before .before .before .before .before in
     let start = at .before .before .before .before .before .before .before .before .before .before .before .before in
-    let pre = start .pre in
-    let s = of-length _ _ _ _ (pre .0) (at .before .before .before .before .before .before .before .before .cube-bytes .ensures) in
     let first = at .before .before .before .before .next-inside .ensures .2 in
-    let inv = at .loop .inv in
-    verdict-long _ _ _ _ _ s (pre .1) (start .args .verdict .now) (pre .2) _ first _ _ _ _ inv
+    verdict-long _ _ _ _ _ (start .args .verdict .now) (start .pre .2) _ first (at .loop .inv)
 
 returns-2 : tie.Need-returns-2 Inv-loop μ-loop
 returns-2 c =
     let at = c .before .before .before .before .before .before in
     let start = at .before .before .before .before .before .before .before .before .before .before .before .before in
-    let pre = start .pre in
-    let s = of-length _ _ _ _ (pre .0) (at .before .before .before .before .before .before .before .before .cube-bytes .ensures) in
     let first = at .before .before .before .before .next-inside .ensures .2 in
-    let inv = at .loop .inv in
-    walked-part _ _ _ _ _ s (pre .1) (start .args .verdict .now) (pre .2) _ first _ _ _ _ inv (c .before .before .before .before .before .loop-test .taken) (c .before .before .next-inside2 .ensures .0) (not-true _ (c .if2 .taken))
+    walked-part _ _ _ _ _ (start .args .verdict .now) (start .pre .2) _ first (at .loop .inv) (c .before .before .before .before .before .loop-test .taken) (c .before .before .next-inside2 .ensures .0) (not-true _ (c .if2 .taken))
 
 slice-aggregate-agree : tie.Need-slice-aggregate-agree Inv-loop μ-loop
 slice-aggregate-agree c =
     let at = c .before .before .before .before .before .before .before .before in
     let start = at .before .before .before .before .before .before .before .before .before .before .before .before in
-    let pre = start .pre in
-    let s = of-length _ _ _ _ (pre .0) (at .before .before .before .before .before .before .before .before .cube-bytes .ensures) in
     let first = at .before .before .before .before .next-inside .ensures .2 in
-    let inv = at .loop .inv in
-    sym (lamps-long _ _ _ _ _ s (pre .1) (start .args .verdict .now) (pre .2) _ first _ _ _ _ inv (c .before .before .before .before .before .before .before .loop-test .taken) _ (c .before .before .before .before .next-inside2 .ensures .2))
+    let inside = c .before .before .before .before .next-inside2 .ensures in
+    sym (lamps-long _ _ _ _ _ (start .args .verdict .now) (start .pre .2) _ first (at .loop .inv) (c .before .before .before .before .before .before .before .loop-test .taken) (inside .0) _ (inside .2))
 
 agree-requires : tie.Need-agree-requires Inv-loop μ-loop
 agree-requires c κs =
     let at = c .before .before .before .before .before .before .before .before in
     let start = at .before .before .before .before .before .before .before .before .before .before .before .before in
-    let pre = start .pre in
-    let s = of-length _ _ _ _ (pre .0) (at .before .before .before .before .before .before .before .before .cube-bytes .ensures) in
     let first = at .before .before .before .before .next-inside .ensures .2 in
-    let inv = at .loop .inv in
-    both-records _ _ _ _ _ s (pre .1) (start .args .verdict .now) (pre .2) _ first _ _ _ _ inv (c .before .before .before .before .before .before .before .loop-test .taken) _ (c .before .before .before .before .next-inside2 .ensures .2)
+    let inside = c .before .before .before .before .next-inside2 .ensures in
+    both-records _ _ _ _ _ (start .args .verdict .now) (start .pre .2) _ first (at .loop .inv) (c .before .before .before .before .before .before .before .loop-test .taken) (inside .0) _ (inside .2)
 
 add-k : tie.Need-add-k Inv-loop μ-loop
-add-k c = omega arith
+add-k c = omega (arith, c .before .before .before .before .before .before .before .before .before .before .before .before .before .before .before .before .before .before .before .before .before .before .before .good)
 
 loop-less : tie.Need-loop-less Inv-loop μ-loop
 loop-less c = omega arith
@@ -126,32 +100,23 @@ loop-again : tie.Need-loop-again Inv-loop μ-loop
 loop-again c =
     let at = c .before .before .before .before .before .before .before .before .before .before .before in
     let start = at .before .before .before .before .before .before .before .before .before .before .before .before in
-    let pre = start .pre in
-    let s = of-length _ _ _ _ (pre .0) (at .before .before .before .before .before .before .before .before .cube-bytes .ensures) in
     let first = at .before .before .before .before .next-inside .ensures .2 in
-    let inv = at .loop .inv in
     let inside = c .before .before .before .before .before .before .before .next-inside2 .ensures in
-    passing-next _ _ _ _ _ s (pre .1) (start .args .verdict .now) (pre .2) _ first _ _ _ _ inv (c .before .before .before .before .before .before .before .before .before .before .loop-test .taken) _ (inside .2) (inside .0) (not-false _ (c .before .before .before .before .before .if2 .left)) _ _ (c .before .before .agree .ensures) (inside .1)
+    passing-next _ _ _ _ _ (start .args .verdict .now) (start .pre .2) _ first (at .loop .inv) (c .before .before .before .before .before .before .before .before .before .before .loop-test .taken) (inside .0) _ (inside .2) (not-false _ (c .before .before .before .before .before .if2 .left)) _ _ (c .before .before .agree .ensures) (inside .1)
 
 same-length-3 : tie.Need-same-length-3 Inv-loop μ-loop
 same-length-3 c =
     let at = c .before in
     let start = at .before .before .before .before .before .before .before .before .before .before .before .before in
-    let pre = start .pre in
-    let s = of-length _ _ _ _ (pre .0) (at .before .before .before .before .before .before .before .before .cube-bytes .ensures) in
     let first = at .before .before .before .before .next-inside .ensures .2 in
-    let inv = at .loop .inv in
-    verdict-long _ _ _ _ _ s (pre .1) (start .args .verdict .now) (pre .2) _ first _ _ _ _ inv
+    verdict-long _ _ _ _ _ (start .args .verdict .now) (start .pre .2) _ first (at .loop .inv)
 
 returns-3 : tie.Need-returns-3 Inv-loop μ-loop
 returns-3 c =
     let at = c .before in
     let start = at .before .before .before .before .before .before .before .before .before .before .before .before in
-    let pre = start .pre in
-    let s = of-length _ _ _ _ (pre .0) (at .before .before .before .before .before .before .before .before .cube-bytes .ensures) in
     let first = at .before .before .before .before .next-inside .ensures .2 in
-    let inv = at .loop .inv in
-    walked-all _ _ _ _ _ s (pre .1) (start .args .verdict .now) (pre .2) _ first _ _ _ _ inv (omega arith)
+    walked-all _ _ _ _ _ (start .args .verdict .now) (start .pre .2) _ first (at .loop .inv) (omega arith)
 
 pub first-uncovered-spec : {M : Type 1} → statement M
 first-uncovered-spec =
