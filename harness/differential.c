@@ -1426,6 +1426,7 @@ static void lend_cover(cover *sent)
     lend_given(CUBES, sent->byte, length);
 }
 
+/* Of a call that gave 10, so the counts are within their ceilings. */
 static size_t ten_of_cover(chudravik_counts counts)
 {
     if (table_words(&hand) < words_of(counts))
@@ -1456,7 +1457,7 @@ static void try_cover(circuit *c)
     lend_cover(&sent);
     lend_noise(VERDICT, length_for(record_bytes(lamps)));
     make_call();
-    note(COVER, hand.library.number, ten_of_cover(counts));
+    note(COVER, hand.library.number, hand.library.number == 10 ? ten_of_cover(counts) : TEN_TABLE);
     see_size(hand.library.number, counts);
     see_cover(counts, of_run, &hand.library);
 }
@@ -1485,8 +1486,18 @@ static void try_call(uint64_t number)
 /* Sights are rarer than numbers, and no seed should fail by its luck. */
 enum { CALLS_ENOUGH = 20000, TIMES_DUE = 20, SIGHTS_DUE = 5 };
 
+static bool is_given(size_t outcome)
+{
+    for (size_t call = 0; call < CALLS; call++)
+        if (can_give((enum call)call, outcome))
+            return true;
+    return false;
+}
+
 static void print_outcome(const char *name, size_t outcome)
 {
+    if (!is_given(outcome))
+        return;
     printf("%-12s", name);
     for (size_t call = 0; call < CALLS; call++)
         if (can_give((enum call)call, outcome))

@@ -16,7 +16,7 @@
  *   - lend a buffer to be filled that overlaps any other buffer of the same call;
  *   - write to a buffer from another thread while the call runs.
  *
- * The archive is for x86-64 Linux. Of the C library it needs memset, and nothing else.
+ * The archive is for x86-64 Linux. Of the C library it needs memcpy and memset, and nothing else.
  */
 #ifndef CHUDRAVIK_H
 #define CHUDRAVIK_H
