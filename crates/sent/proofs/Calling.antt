@@ -13,7 +13,7 @@ use Rattle.three.specs.Record.{bytesFor, pack}
 use Rattle.three.proofs.Lists.{by-test, every-at}
 use Rattle.three.proofs.Pack.{length-pack}
 use Rattle.circuit.specs.Refusal.{Test, refusal}
-use Rattle.circuit.specs.Table.{ceilingTests, wordTests, boardTests, circuitOf}
+use Rattle.circuit.specs.Table.{ceilingTests, wordTests, boardTests, circuitOf, lampTests}
 use Rattle.circuit.proofs.Refusals.{refused-old, accepted-new, past}
 use Rattle.cubes.specs.Run.{start}
 use Rattle.cubes.specs.Buffer.{cubeIn}
@@ -40,7 +40,7 @@ module _ (g : SentGiven) where
   uncovered = firstUncovered (circuitIn g) (cubesIn g) (g .n)
 
   given-under : refusal (givenTests (g .counts) (g .table) (g .cubes) (g .n)) < 17
-  unfolding boardTests ceilingTests wordTests cubeTests
+  unfolding boardTests ceilingTests lampTests wordTests cubeTests
   given-under = refusal-under 17 (givenTests (g .counts) (g .table) (g .cubes) (g .n)) (omega arith) (omega arith)
 
   -- ---- refusals

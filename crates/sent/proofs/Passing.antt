@@ -21,8 +21,11 @@ use Rattle.cubes.proofs.StoredCube.{cube-at}
 use Rattle.stored.specs.CubesInCode.{SwitchesX}
 use Rattle.cubes.proofs.Covering.{uncovered-at, uncovered-none}
 use Rattle.judge.specs.JudgeInCode.{Judgeable}
-use Rattle.judge.proofs.Lamps.{Judged, judged-first, judged-record, judged-length, judged-next, judged-last, lamps-record, lamps-length}
+use Rattle.judge.proofs.Lamps.{Judged, judged-first, judged-next, judged-last, lamps-record, lamps-length}
+use Rattle.cubes.proofs.Merging.{merged-record, merged-length, length-over}
 use Rattle.sent.specs.SentInCode.{Sendable, Walked}
+use Rattle.three.proofs.Pack.{length-pack}
+use Rattle.cubes.proofs.Buffered.{lamps-counted}
 
 module _ (c : Counts) (words : List ℕ) (len n : ℕ) (cubes : List ℕ) where
   abbrev circuit : Circuit
@@ -63,28 +66,28 @@ module _ (c : Counts) (words : List ℕ) (len n : ℕ) (cubes : List ℕ) where
     passing-first j e f values lamps ready long = record {
       given = j;
       ready = ready;
-      judged = judged-first c words len n cubes j entry fits begun first;
+      judged = judged-first c words len n cubes j entry fits first;
       long = long;
       within = j .some;
       passed = below-more _ 0 (λ m l. absurd (not-suc-le-zero l)) (sym (asked-first j e) ∙ f);
     }
 
     pub begun-long : Judgeable c words len n cubes → length begun ≡ length entry
-    begun-long j = judged-length c words len n cubes j entry fits begun first begun 1 (judged-first c words len n cubes j entry fits begun first)
+    begun-long j = ap length first ∙ length-over _ entry (rw (length-pack, lamps-counted) fits)
 
     module _ {verdict values lamps : List ℕ} {k : ℕ} (p : Passing begun verdict values lamps k) where
       abbrev j : Judgeable c words len n cubes
       j = p .given
 
       pub verdict-long : length verdict ≡ length entry
-      verdict-long = judged-length c words len n cubes j entry fits begun first verdict k (p .judged)
+      verdict-long = merged-length _ _ _ _ _ (p .judged) ∙ begun-long j
 
       pub walked-all : n ≤ k → Walked c words cubes n entry n verdict
       walked-all h =
           let whole : k ≡ n = omega (arith, p .within) in
           record {
             names = uncovered-none _ _ n (λ m l. p .passed m (omega arith));
-            judges = λ z. judged-last c words len n cubes j entry fits begun first verdict k (p .judged) whole;
+            judges = λ z. judged-last c words len n cubes j entry fits first (p .judged) whole;
           }
 
       -- one cube more
@@ -93,21 +96,18 @@ module _ (c : Counts) (words : List ℕ) (len n : ℕ) (cubes : List ℕ) where
         walked-part f = record { names = uncovered-at _ _ n k h (p .passed) (sym (asked j k e) ∙ f); judges = λ z. absurd (omega arith) }
 
         module _ (lamps′ : List ℕ) (read : lamps′ ≡ over (pack (lampsIn circuit (cubeOf (c .latches) (drop (k * len) cubes)))) lamps) where
-          wide : bytesFor (c .lamps) ≤ length lamps
-          wide = omega (arith, p .long, j .legal .bounded .lamps)
-
           pub lamps-long : length lamps′ ≡ 16
-          lamps-long = lamps-length c words len n cubes j entry fits begun first k lamps lamps′ wide read ∙ p .long
+          lamps-long = lamps-length c words len n cubes j k lamps (p .long) read
 
           pub both-records : IsRecord (c .lamps) verdict × IsRecord (c .lamps) lamps′
-          both-records = (judged-record c words len n cubes j entry fits begun first verdict k (p .judged), lamps-record c words len n cubes j entry fits begun first k lamps lamps′ wide read)
+          both-records = (merged-record _ _ _ _ _ (p .judged), lamps-record c words len n cubes j k lamps (p .long) read)
 
           pub passing-next : r ≡ true → (verdict′ values′ : List ℕ) → verdict′ ≡ over (pack (merged (unpack (c .lamps) verdict) (unpack (c .lamps) lamps′))) verdict → SwitchesX c values′
               → Passing begun verdict′ values′ lamps′ (k + 1)
           passing-next f verdict′ values′ merges ready = record {
             given = j;
             ready = ready;
-            judged = judged-next c words len n cubes j entry fits begun first k lamps lamps′ wide read verdict verdict′ (p .judged) merges;
+            judged = judged-next c words len n cubes j k lamps (p .long) read (p .judged) merges;
             long = lamps-long;
             within = omega arith;
             passed = below-more _ k (p .passed) (sym (asked j k e) ∙ f);

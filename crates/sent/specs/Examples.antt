@@ -10,7 +10,7 @@ use Rattle.three.specs.Cube.{alike, allows, subsumes, blank, agree, merged}
 use Rattle.three.specs.Record.{byteOf, byteAt, pack, pairs, pairAt, unpack, bad, leftover, sound}
 use Rattle.circuit.specs.Circuit.{signed, value, pass, settle, readings}
 use Rattle.circuit.specs.Refusal.{refusal, allHold, leftBy}
-use Rattle.circuit.specs.Table.{ceilingTests, several, kinds, width, rowTests, tableTests, circuitOf, wordTests, boardTests}
+use Rattle.circuit.specs.Table.{ceilingTests, several, kinds, width, rowTests, tableTests, circuitOf, wordTests, boardTests, lampTests}
 use Rattle.cubes.specs.Run.{switchesUnknown, nextCube, lampsIn, startField, resets, start, search, merge, mergeFrom, verdict}
 use Rattle.cubes.specs.Buffer.{cubeBytes, cubeOf, soundCube, cubeIn, soundIn}
 use Rattle.cubes.specs.Call.{roomIn}
@@ -28,7 +28,7 @@ sends cubes n = record {
 }
 
 unfoldable pub answered : SentGiven → List ℕ
-unfolding tabulate every adjust over code decode both inverse ternary alike allows subsumes blank agree merged byteOf byteAt pack pairs pairAt unpack bad leftover sound signed value pass settle readings refusal allHold leftBy ceilingTests several kinds width rowTests tableTests circuitOf wordTests boardTests switchesUnknown nextCube lampsIn startField resets start search merge mergeFrom verdict cubeBytes cubeOf soundCube cubeIn soundIn roomIn first cubeTests covered nextCovered coverTests firstUncovered circuitIn cubesIn verdictTests sentTests verdictFields
+unfolding tabulate every adjust over code decode both inverse ternary alike allows subsumes blank agree merged byteOf byteAt pack pairs pairAt unpack bad leftover sound signed value pass settle readings refusal allHold leftBy ceilingTests lampTests several kinds width rowTests tableTests circuitOf wordTests boardTests switchesUnknown nextCube lampsIn startField resets start search merge mergeFrom verdict cubeBytes cubeOf soundCube cubeIn soundIn roomIn first cubeTests covered nextCovered coverTests firstUncovered circuitIn cubesIn verdictTests sentTests verdictFields
 answered g =
     let number : ℕ = refusal (sentTests g) in
     number ∷ cond (eqb number 18) (firstUncovered (circuitIn g) (cubesIn g) (g .n)) 0 ∷ leftBy number (over (pack (verdictFields g)) (g .verdict)) (g .verdict)
