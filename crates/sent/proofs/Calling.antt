@@ -1,6 +1,6 @@
 -- The public cover: what it answers and leaves where it is refused, at each of its numbers, and where it is accepted. Assumes nothing.
 use mathlib.Core.Path.{_≡_, refl, sym, ap, ap₂, _∙_}
-use mathlib.Core.Bool.{true, false, not, cond}
+use mathlib.Core.Bool.{Bool, true, false, not, cond}
 use mathlib.Core.List.{List, [], _∷_, _++_}
 use Prim.Native.Nat.{ℕ, _+_, _<_, _≤_}
 use native.Mathlib.Omega.{arith}
@@ -58,12 +58,16 @@ module _ (g : SentGiven) where
       passed : 0 ≡ refusal (givenTests (g .counts) (g .table) (g .cubes) (g .n))
       passed = sym ok ∙ is
 
-      pub start-refused : covered (circuitOf (g .counts) (g .table)) (cubeIn (g .counts .latches) (g .cubes)) (g .n) (start (circuitOf (g .counts) (g .table))) ≡ false
-          → Sent g (record { number = 17; cube = 0 }) (g .verdict)
-      unfolding circuitIn cubesIn
-      start-refused h = refused (start-outside g passed h) (λ z. omega arith) refl
+      -- the start, as the code found it
+      module _ {r : Bool} (found : r ≡ covered (circuitOf (g .counts) (g .table)) (cubeIn (g .counts .latches) (g .cubes)) (g .n) (start (circuitOf (g .counts) (g .table)))) where
+        pub start-refused : r ≡ false → Sent g (record { number = 17; cube = 0 }) (g .verdict)
+        unfolding circuitIn cubesIn
+        start-refused h = refused (start-outside g passed (sym found ∙ h)) (λ z. omega arith) refl
 
-      module _ (starts : covered (circuitOf (g .counts) (g .table)) (cubeIn (g .counts .latches) (g .cubes)) (g .n) (start (circuitOf (g .counts) (g .table))) ≡ true) where
+      module _ {r : Bool} (found : r ≡ covered (circuitOf (g .counts) (g .table)) (cubeIn (g .counts .latches) (g .cubes)) (g .n) (start (circuitOf (g .counts) (g .table)))) (inside : r ≡ true) where
+        starts : covered (circuitOf (g .counts) (g .table)) (cubeIn (g .counts .latches) (g .cubes)) (g .n) (start (circuitOf (g .counts) (g .table))) ≡ true
+        starts = sym found ∙ inside
+
         module _ {cube : ℕ} {lamps lamps′ : List ℕ} (walked : Walked (g .counts) (g .table) (g .cubes) (g .n) lamps cube lamps′) where
           cube-is : cube ≡ uncovered
           unfolding circuitIn cubesIn

@@ -1,6 +1,6 @@
 -- The refusals of a sent cover in order, and what holds where none is given. Assumes nothing.
-use mathlib.Core.Path.{_≡_, ap, _∙_}
-use mathlib.Core.Bool.{true, false}
+use mathlib.Core.Path.{_≡_, sym, ap, _∙_}
+use mathlib.Core.Bool.{Bool, true, false}
 use mathlib.Core.List.{List, _++_, append-assoc}
 use Prim.Native.Nat.{ℕ, _<_, _≤_}
 use native.Mathlib.Omega.{arith}
@@ -9,7 +9,10 @@ use lib.Dec.{leb}
 use lib.ListN.{length}
 use Rattle.three.specs.Lists.{every}
 use Rattle.three.specs.Record.{bytesFor}
+use Rattle.three.specs.Cube.{Cube}
 use Rattle.circuit.specs.declared.Counts.{Counts}
+use Rattle.circuit.specs.Circuit.{Circuit}
+use Rattle.cubes.proofs.Covering.{covered-some}
 use Rattle.circuit.specs.Refusal.{Test, _or_, refusal}
 use Rattle.circuit.specs.Table.{boardTests}
 use Rattle.circuit.specs.RulesInCode.{Passed}
@@ -28,6 +31,10 @@ sendable c table cubes n ok =
     let p = none-append (boardTests c table) (cubeTests c cubes n) (board-numbered c table) ok in
     let are = cubes-given c cubes n (p .1) in
     record { legal = board-legal c table (p .0); stand = cubes-stand c cubes n (are .0) (are .1) }
+
+-- where something lies inside there is a cube
+pub some-cube : (c : Circuit) (cubes : ℕ → Cube) (n : ℕ) (b : Cube) {r : Bool} → r ≡ covered c cubes n b → r ≡ true → 1 ≤ n
+some-cube c cubes n b e h = covered-some _ _ _ _ (sym e ∙ h)
 
 module _ (g : SentGiven) where
   abbrev board : List Test

@@ -5,8 +5,7 @@ use lib.ListN.{length}
 use Rattle.three.specs.Record.{bytesFor}
 use native.Mathlib.Omega.{arith}
 use borrow.Author.Tests.{not-true, not-false}
-use Rattle.cubes.proofs.Covering.{covered-some}
-use Rattle.sent.proofs.Refusing.{sendable}
+use Rattle.sent.proofs.Refusing.{sendable, some-cube}
 use Rattle.sent.proofs.Calling.{given-refused, start-refused, next-refused, verdict-refused, accepted}
 use Rattle.sent.proofs.Promising.{promises}
 use borrow.Author.Needs.{needs}
@@ -26,7 +25,7 @@ start-inside-requires c κs = sendable _ _ _ _ (sym (c .if1 .left) ∙ c .before
 
 returns-2 : tie.Need-returns-2
 returns-2 c =
-    let sent = start-refused _ (c .before .before .before .given-refusal .ensures) (c .before .before .if1 .left) (sym (c .before .start-inside .ensures) ∙ not-true _ (c .if2 .taken)) in
+    let sent = start-refused _ (c .before .before .before .given-refusal .ensures) (c .before .before .if1 .left) (c .before .start-inside .ensures) (not-true _ (c .if2 .taken)) in
     (sent, promises _ _ _ sent)
 
 slice-aggregate-first-uncovered : tie.Need-slice-aggregate-first-uncovered
@@ -35,11 +34,11 @@ slice-aggregate-first-uncovered c = search needs
 first-uncovered-requires : tie.Need-first-uncovered-requires
 first-uncovered-requires c κs =
     let s = sendable _ _ _ _ (sym (c .before .before .before .if1 .left) ∙ c .before .before .before .before .given-refusal .ensures) in
-    (s, covered-some _ _ _ _ (sym (c .before .before .start-inside .ensures) ∙ not-false _ (c .before .if2 .left)), omega (arith, s .legal .bounded .lamps))
+    (s, some-cube _ _ _ _ (c .before .before .start-inside .ensures) (not-false _ (c .before .if2 .left)), omega (arith, s .legal .bounded .lamps))
 
 returns-3 : tie.Need-returns-3
 returns-3 c =
-    let sent = next-refused _ (c .before .before .before .before .before .before .before .given-refusal .ensures) (c .before .before .before .before .before .before .if1 .left) (sym (c .before .before .before .before .before .start-inside .ensures) ∙ not-false _ (c .before .before .before .before .if2 .left)) (c .before .before .first-uncovered .ensures) (c .if3 .taken) in
+    let sent = next-refused _ (c .before .before .before .before .before .before .before .given-refusal .ensures) (c .before .before .before .before .before .before .if1 .left) (c .before .before .before .before .before .start-inside .ensures) (not-false _ (c .before .before .before .before .if2 .left)) (c .before .before .first-uncovered .ensures) (c .if3 .taken) in
     (sent, promises _ _ _ sent)
 
 record-length-requires : tie.Need-record-length-requires
@@ -49,7 +48,7 @@ returns-4 : tie.Need-returns-4
 returns-4 c =
     let start = c .before .before .before .before .before .before .before .before .before .before .before .before .before in
     let short : length (start .args .verdict .now) < bytesFor (start .args .counts .lamps) = omega arith in
-    let sent = verdict-refused _ (c .before .before .before .before .before .before .before .before .before .given-refusal .ensures) (c .before .before .before .before .before .before .before .before .if1 .left) (sym (c .before .before .before .before .before .before .before .start-inside .ensures) ∙ not-false _ (c .before .before .before .before .before .before .if2 .left)) (c .before .before .before .before .first-uncovered .ensures) (omega arith) short in
+    let sent = verdict-refused _ (c .before .before .before .before .before .before .before .before .before .given-refusal .ensures) (c .before .before .before .before .before .before .before .before .if1 .left) (c .before .before .before .before .before .before .before .start-inside .ensures) (not-false _ (c .before .before .before .before .before .before .if2 .left)) (c .before .before .before .before .first-uncovered .ensures) (omega arith) short in
     (sent, promises _ _ _ sent)
 
 slice-aggregate-copy-record : tie.Need-slice-aggregate-copy-record
@@ -65,7 +64,7 @@ same-length c = search needs
 
 returns-5 : tie.Need-returns-5
 returns-5 c =
-    let sent = accepted _ (c .before .before .before .before .before .before .before .before .before .before .before .before .before .before .given-refusal .ensures) (c .before .before .before .before .before .before .before .before .before .before .before .before .before .if1 .left) (sym (c .before .before .before .before .before .before .before .before .before .before .before .before .start-inside .ensures) ∙ not-false _ (c .before .before .before .before .before .before .before .before .before .before .before .if2 .left)) (c .before .before .before .before .before .before .before .before .before .first-uncovered .ensures) (omega arith) (c .before .before .before .before .before .before .record-length .ensures) (omega arith) (c .before .before .copy-record .ensures) in
+    let sent = accepted _ (c .before .before .before .before .before .before .before .before .before .before .before .before .before .before .given-refusal .ensures) (c .before .before .before .before .before .before .before .before .before .before .before .before .before .if1 .left) (c .before .before .before .before .before .before .before .before .before .before .before .before .start-inside .ensures) (not-false _ (c .before .before .before .before .before .before .before .before .before .before .before .if2 .left)) (c .before .before .before .before .before .before .before .before .before .first-uncovered .ensures) (omega arith) (c .before .before .before .before .before .before .record-length .ensures) (omega arith) (c .before .before .copy-record .ensures) in
     (sent, promises _ _ _ sent)
 
 pub cover-spec : {M : Type 1} → statement M
