@@ -1,77 +1,80 @@
 -- Laws of the working table, of a literal's value, and of the records that are loaded into it and stored from it. Assumes nothing.
 use mathlib.Core.Path.{_≡_, refl, sym, ap, _∙_}
-use mathlib.Core.List.{List, [], _∷_, map}
+use mathlib.Core.List.{List, [], _∷_}
 use Prim.Native.Nat.{ℕ, zero, suc, _+_, _*_, _/_, _%_, _<_, _≤_}
 use native.Mathlib.Nat.{le-of-suc-le-suc, not-suc-le-zero}
 use native.Mathlib.Omega.{arith}
-use lib.ListN.{length, getD, set, take, replicate, length-set, length-map, length-replicate, List·getD-map}
-use Rattle.three.specs.Record.{pairAt, unpack}
+use borrow.Author.Tests.{eqb-true, eqb-false}
+use lib.Dec.{eqb}
+use lib.ListN.{length, getD, set, take, replicate, length-set, length-replicate}
+use Rattle.three.specs.Record.{pairs, pairAt, unpack}
 use Rattle.three.specs.RecordInCode.{IsRecord}
+use Rattle.three.specs.Lists.{tabulate}
 use Rattle.three.specs.Value.{Three, unknown, low, code, decode, ternary}
 use Rattle.three.proofs.Loops.{Stored, stored-next}
-use Rattle.three.proofs.Lists.{length-tabulate, getD-tabulate, getD-beyond}
+use Rattle.three.proofs.Lists.{by-test, length-tabulate, getD-tabulate, getD-beyond, tabulate-ext}
 use Rattle.three.proofs.Table.{entry-of-row}
 use Rattle.three.proofs.Bytes.{code-small, code-decode, decode-code}
-use Rattle.three.proofs.Pack.{length-unpack}
+use Rattle.three.proofs.Pack.{length-unpack, pair-put, pair-kept, unpack-put}
 use Rattle.three.proofs.Soundness.{sound-pair}
 use Rattle.circuit.specs.Circuit.{signed, value}
 use Rattle.pass.specs.ValuesInCode.{valuesOf, freshValues, Working, Holding, Begins, signTable, literalValues}
 
 -- ---- a variable read, and written
 
--- within a list the default does not matter
-getD-any : {A : Type 0} (l : List A) (i : ℕ) (d e : A) → i < length l → getD l i d ≡ getD l i e
-getD-any [] i d e h = absurd (not-suc-le-zero h)
-getD-any (x ∷ l) zero d e h = refl
-getD-any (x ∷ l) (suc i) d e h = getD-any l i d e (le-of-suc-le-suc h)
+pub variable-value : (table : List ℕ) (v : ℕ) → v < 4096 → Working table → pairAt table v ≡ code (getD (valuesOf table) v low)
+unfolding valuesOf unpack
+variable-value table v h w = sym (code-decode _ (w .codes v)) ∙ ap code (sym (getD-tabulate (4 * length table) _ v low (omega (arith, w .long))))
 
-pub variable-value : (table : List ℕ) (v : ℕ) → v < 4096 → Working table → getD table v 0 ≡ code (getD (valuesOf table) v low)
-unfolding valuesOf decode
-variable-value table v h w =
-    sym (code-decode _ (w .codes v))
-    ∙ ap code (ap decode (getD-any table v 0 1 (omega (arith, w .long))) ∙ sym (List·getD-map decode table v 1))
-
-codes-set : (l : List ℕ) (i x : ℕ) → x < 3 → ((j : ℕ) → getD l j 0 < 3) → (j : ℕ) → getD (set l i x) j 0 < 3
-codes-set [] i x s h j = h j
-codes-set (y ∷ l) zero x s h zero = s
-codes-set (y ∷ l) zero x s h (suc j) = h (suc j)
-codes-set (y ∷ l) (suc i) x s h zero = h zero
-codes-set (y ∷ l) (suc i) x s h (suc j) = codes-set l i x s (λ k. h (suc k)) j
-
-map-set : {A B : Type 0} (f : A → B) (l : List A) (i : ℕ) (a : A) → map f (set l i a) ≡ set (map f l) i (f a)
-map-set f [] i a = refl
-map-set f (x ∷ l) zero a = refl
-map-set f (x ∷ l) (suc i) a = ap (λ m. f x ∷ m) (map-set f l i a)
-
-pub put-holds : (table : List ℕ) (v x : ℕ) → x < 3 → Working table → Holding (set table v x) (set (valuesOf table) v (decode x))
+pub put-holds : (table : List ℕ) (v x byte : ℕ) → v < 4096 → x < 3 → Working table → pairs byte ≡ set (pairs (getD table (v / 4) 0)) (v % 4) x
+    → Holding (set table (v / 4) byte) (set (valuesOf table) v (decode x))
 unfolding valuesOf
-put-holds table v x s w = record {
-  working = record { long = length-set table v x ∙ w .long; codes = codes-set table v x s (w .codes) };
-  same = map-set decode table v x;
-}
+put-holds table v x byte h s w put =
+    let room : v < 4 * length table = omega (arith, w .long) in
+    record {
+      working = record {
+        long = rw (length-set table (v / 4) byte) (w .long);
+        codes = λ i. by-test (eqb i v)
+            (λ t. rw (eqb-true i v t, pair-put table v x byte room put) s)
+            (λ t. rw (pair-kept table v x byte room put i (eqb-false i v t)) (w .codes i));
+      };
+      same = rw (length-set table (v / 4) byte) (unpack-put table v x byte room put (4 * length table));
+    }
 
-pub length-values : (table : List ℕ) → length (valuesOf table) ≡ length table
+pub length-values : (table : List ℕ) → length (valuesOf table) ≡ 4 * length table
 unfolding valuesOf
-length-values table = length-map table decode
+length-values table = length-unpack (4 * length table) table
 
 -- ---- a new working table
 
-pub fresh-working : Working (replicate 4096 0)
-fresh-working = record { long = length-replicate {A = ℕ} 4096 0; codes = zeros 4096 }
+-- zeros are pairs 00
+zero-pair : (n i : ℕ) → pairAt (replicate n 0) i ≡ 0
+unfolding pairAt pairs
+zero-pair n i = ap (λ byte. getD (pairs byte) (i % 4) 0) (at n (i / 4)) ∙ at 4 (i % 4)
   where
-    zeros : (n i : ℕ) → getD (replicate n 0) i 0 < 3
-    zeros zero i = omega arith
-    zeros (suc n) zero = omega arith
-    zeros (suc n) (suc i) = zeros n i
+    at : (n k : ℕ) → getD {A = ℕ} (replicate n 0) k 0 ≡ 0
+    at zero k = refl
+    at (suc n) zero = refl
+    at (suc n) (suc k) = at n k
 
-zeros-unknown : (n : ℕ) → map decode (replicate n 0) ≡ replicate n unknown
-unfolding decode
-zeros-unknown zero = refl
-zeros-unknown (suc n) = ap (λ l. unknown ∷ l) (zeros-unknown n)
+all-unknown : (m : ℕ) → tabulate m (λ i. unknown) ≡ replicate m unknown
+unfolding tabulate
+all-unknown zero = refl
+all-unknown (suc m) = ap (λ l. unknown ∷ l) (all-unknown m)
 
-pub fresh-holds : (table : List ℕ) → Holding table (set (valuesOf (replicate 4096 0)) 0 (decode 1)) → Holding table freshValues
+zeros-unknown : (n m : ℕ) → unpack m (replicate n 0) ≡ replicate m unknown
+unfolding unpack decode
+zeros-unknown n m = tabulate-ext m _ (λ i. unknown) (λ i h. ap decode (zero-pair n i)) ∙ all-unknown m
+
+pub fresh-working : Working (replicate 1024 0)
+fresh-working = record { long = ap (λ n. 4 * n) (length-replicate {A = ℕ} 1024 0); codes = λ v. rw (zero-pair 1024 v) (omega arith) }
+
+pub fresh-holds : (table : List ℕ) → Holding table (set (valuesOf (replicate 1024 0)) 0 (decode 1)) → Holding table freshValues
 unfolding valuesOf freshValues decode
-fresh-holds table put = record { working = put .working; same = put .same ∙ ap (λ (l : List Three). low ∷ l) (zeros-unknown 4095) }
+fresh-holds table put = record {
+  working = put .working;
+  same = put .same ∙ ap (λ (l : List Three). set l 0 low) (zeros-unknown 1024 _ ∙ ap (λ n. replicate (4 * n) unknown) (length-replicate {A = ℕ} 1024 0));
+}
 
 take-replicate : (m n : ℕ) → m ≤ n → take m (replicate n unknown) ≡ replicate m unknown
 take-replicate zero n h = refl

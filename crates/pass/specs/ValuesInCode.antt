@@ -1,26 +1,27 @@
--- The working table of a pass (specification, 3.3), as the code holds it: 4,096 values, one for each variable. Assumes nothing.
+-- The working table of a pass (specification, 3.3), as the code holds it: the record of 4,096 values, one for each variable. Assumes nothing.
 use mathlib.Core.Path.{_≡_}
-use mathlib.Core.List.{List, _∷_, _++_, map}
+use mathlib.Core.List.{List, _∷_, _++_}
 use Prim.Native.Nat.{ℕ, _+_, _*_, _<_, _≤_}
 use lib.ListN.{length, getD, take, drop, replicate}
 use Rattle.three.specs.Lists.{tabulate}
 use Rattle.three.specs.Value.{Three, unknown, low, code, decode, ternary}
 use Rattle.three.specs.Cube.{Cube}
+use Rattle.three.specs.Record.{pairAt, unpack}
 use Rattle.circuit.specs.Circuit.{signed, value, pass}
 use Rattle.circuit.specs.RulesInCode.{gatesFrom}
 
 -- the values that a working table holds
 unfoldable pub valuesOf : List ℕ → List Three
-valuesOf table = map decode table
+valuesOf table = unpack (4 * length table) table
 
 -- those of a new one: the constant, and all else X
 unfoldable pub freshValues : List Three
 freshValues = low ∷ replicate 4095 unknown
 
--- 4,096 values
+-- 4,096 values, four a byte, and no pair 11
 pub record Working (table : List ℕ) : Type 0 where
-  pub long : length table ≡ 4096
-  pub codes : (v : ℕ) → getD table v 0 < 3
+  pub long : 4 * length table ≡ 4096
+  pub codes : (v : ℕ) → pairAt table v < 3
 
 -- a working table that holds these values
 pub record Holding (table : List ℕ) (values : List Three) : Type 0 where

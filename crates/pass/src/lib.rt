@@ -15,14 +15,14 @@ ghost use Rattle.circuit.specs.Table.{circuitOf};
 ghost use Rattle.circuit.specs.RulesInCode.{Legal};
 ghost use Rattle.pass.specs.ValuesInCode.{valuesOf, freshValues, Working, Holding, Begins, signTable, Gateable, Readable, literalValues, passed};
 
-// A working table of 4,096 values.
-pub type Values = [u8; 4096];
+// A working table of 4,096 values, packed as a record.
+pub type Values = [u8; 1024];
 
 // It is made and reached through these three functions alone.
 pub fn fresh_values() -> Values
     ensures { λ r. ⌜ Holding r freshValues ⌝ }
 {
-    let mut values = [0u8; 4096];
+    let mut values = [0u8; 1024];
     put_variable(&mut values, 0, 1); // the constant
     values
 }
@@ -31,14 +31,14 @@ fn variable(values: &Values, v: usize) -> u8
     requires { ⌜ (v < 4096) × Working (now values) ⌝ }
     ensures { λ r. ⌜ r ≡ code (getD (valuesOf (now (values .entry))) v low) ⌝ }
 {
-    values[v]
+    three::field(values, v)
 }
 
 fn put_variable(values: &mut Values, v: usize, x: u8)
     requires { ⌜ (v < 4096) × (x < 3) × Working (now values) ⌝ }
     ensures { λ _. ⌜ Holding (now (values .exit)) (set (valuesOf (now (values .entry))) v (decode x)) ⌝ }
 {
-    values[v] = x;
+    values[v / 4] = three::put_field(values[v / 4], v % 4, x);
 }
 
 // A value as it is, and inverted: "Inverting swaps 0 and 1 and keeps X.".

@@ -5,7 +5,7 @@ use mathlib.Core.List.{List, [], _∷_, _++_, map}
 use Prim.Native.Nat.{ℕ, zero, suc, _+_, _-_, _<_, _≤_, suc-le-suc}
 use native.Mathlib.Nat.{le-of-suc-le-suc, not-suc-le-zero}
 use native.Mathlib.Omega.{arith}
-use lib.ListN.{length, getD}
+use lib.ListN.{length, getD, set}
 use Rattle.three.specs.Lists.{tabulate, every, adjust, Each, empty, also}
 
 -- ---- tests
@@ -64,6 +64,13 @@ pub tabulate-getD {ℓ} : {A : Type ℓ} (l : List A) (d : A) → tabulate (leng
 unfolding tabulate
 tabulate-getD [] d = refl
 tabulate-getD (x ∷ l) d = ap (λ m. x ∷ m) (tabulate-getD l d)
+
+-- a function that differs at v alone
+pub tabulate-set : {A : Type 0} (n : ℕ) (f g : ℕ → A) (v : ℕ) {a : A} → g v ≡ a → ((i : ℕ) → (i ≡ v → ⊥) → g i ≡ f i) → tabulate n g ≡ set (tabulate n f) v a
+unfolding tabulate
+tabulate-set zero f g v e h = refl
+tabulate-set (suc n) f g zero e h = ap₂ (λ x l. x ∷ l) e (tabulate-ext n (λ i. g (suc i)) (λ i. f (suc i)) (λ i k. h (suc i) (λ q. omega arith)))
+tabulate-set (suc n) f g (suc v) e h = ap₂ (λ x l. x ∷ l) (h zero (λ q. omega arith)) (tabulate-set n (λ i. f (suc i)) (λ i. g (suc i)) v e (λ i k. h (suc i) (λ q. k (omega arith))))
 
 -- ---- every
 

@@ -1,16 +1,18 @@
 -- Laws of a record: its length, its bytes, and its fields read back. Assumes nothing.
-use mathlib.Core.Path.{_≡_, sym, ap, _∙_}
+use mathlib.Core.Path.{_≡_, refl, sym, ap, _∙_}
 use mathlib.Core.List.{List}
 use Prim.Native.Nat.{ℕ, zero, suc, _+_, _*_, _-_, _/_, _%_, _<_}
 use native.Mathlib.Nat.{add-zero}
 use native.Mathlib.Omega.{arith}
-use lib.ListN.{length, getD, take, drop}
-use lib.Seq.{getD-take, take-at}
+use borrow.Author.Tests.{eqb-true, eqb-false}
+use lib.Dec.{eqb}
+use lib.ListN.{length, getD, set, take, drop}
+use lib.Seq.{getD-take, take-at, getD-set-same, getD-set-other}
 use Rattle.three.specs.Lists.{over}
 use Rattle.three.specs.Value.{unknown, code, decode}
 use Rattle.three.specs.Cube.{Cube}
 use Rattle.three.specs.Record.{bytesFor, byteAt, pack, pairs, pairAt, unpack}
-use Rattle.three.proofs.Lists.{length-tabulate, getD-tabulate, tabulate-ext, tabulate-getD}
+use Rattle.three.proofs.Lists.{by-test, length-tabulate, getD-tabulate, tabulate-ext, tabulate-getD, tabulate-set}
 use Rattle.three.proofs.Bytes.{pairs-byte, decode-code}
 
 -- ---- the record of given fields
@@ -65,3 +67,25 @@ take-over f fs d e = take-at (pack fs) (drop (length (pack fs)) d) (bytesFor f) 
 
 pub unpack-over : (f : ℕ) (fs : Cube) (d : List ℕ) → length fs ≡ f → unpack f (over (pack fs) d) ≡ fs
 unpack-over f fs d e = sym (unpack-take f (over (pack fs) d)) ∙ ap (unpack f) (take-over f fs d e) ∙ rw (← e) (unpack-pack fs)
+
+-- ---- one field replaced in its byte
+
+module _ (bytes : List ℕ) (v x byte : ℕ) (h : v < 4 * length bytes) (put : pairs byte ≡ set (pairs (getD bytes (v / 4) 0)) (v % 4) x) where
+  pair-byte : (i : ℕ) → i / 4 ≡ v / 4 → pairAt (set bytes (v / 4) byte) i ≡ getD (set (pairs (getD bytes (v / 4) 0)) (v % 4) x) (i % 4) 0
+  unfolding pairAt
+  pair-byte i e = rw (e, getD-set-same bytes (v / 4) byte 0 (omega arith), put)
+
+  pub pair-put : pairAt (set bytes (v / 4) byte) v ≡ x
+  unfolding pairs
+  pair-put = pair-byte v refl ∙ getD-set-same (pairs (getD bytes (v / 4) 0)) (v % 4) x 0 (omega arith)
+
+  pub pair-kept : (i : ℕ) → (i ≡ v → ⊥) → pairAt (set bytes (v / 4) byte) i ≡ pairAt bytes i
+  unfolding pairAt
+  pair-kept i other =
+      by-test (eqb (i / 4) (v / 4))
+      (λ t. let e = eqb-true (i / 4) (v / 4) t in pair-byte i e ∙ getD-set-other (pairs (getD bytes (v / 4) 0)) (v % 4) (i % 4) x 0 (λ q. other (omega arith)) ∙ rw e)
+      (λ t. ap (λ b. getD (pairs b) (i % 4) 0) (getD-set-other bytes (v / 4) (i / 4) byte 0 (eqb-false (i / 4) (v / 4) t)))
+
+  pub unpack-put : (f : ℕ) → unpack f (set bytes (v / 4) byte) ≡ set (unpack f bytes) v (decode x)
+  unfolding unpack
+  unpack-put f = tabulate-set f _ _ v (ap decode pair-put) (λ i other. ap decode (pair-kept i other))

@@ -1,12 +1,12 @@
 // Values 0, 1 and X, and records of two-bit fields (specification, 2). A value is its two bits: 0 unknown, 1 low, 2 high.
 ghost use mathlib.Core.Path.{_≡_};
 ghost use Prim.Native.Nat.{_*_, _<_, _≤_};
-ghost use lib.ListN.{length};
+ghost use lib.ListN.{length, set};
 ghost use Rattle.three.specs.Lists.{over};
 ghost use Rattle.three.specs.Value.{code, decode, both};
 ghost use Rattle.three.specs.RecordInCode.{gateTable};
 ghost use Rattle.three.specs.Cube.{merged, knownFields};
-ghost use Rattle.three.specs.Record.{bytesFor, byteOf, pack, pairAt, unpack, sound as soundRecord};
+ghost use Rattle.three.specs.Record.{bytesFor, byteOf, pack, pairs, pairAt, unpack, sound as soundRecord};
 ghost use Rattle.three.specs.RecordInCode.{judged};
 ghost use Rattle.three.specs.RecordInCode.{knownTable, IsRecord};
 
@@ -335,6 +335,15 @@ pub fn field(bytes: &[u8], i: usize) -> u8
     ensures { λ r. ⌜ r ≡ pairAt (now (bytes .entry)) i ⌝ }
 {
     (bytes[i / 4] >> (6 - 2 * (i % 4))) % 4
+}
+
+// A record's byte with the field at this place replaced: its old pair is cleared, the other three stay.
+pub fn put_field(byte: u8, place: usize, x: u8) -> u8
+    requires { ⌜ (place < 4) × (x < 3) ⌝ }
+    ensures { λ r. ⌜ pairs r ≡ set (pairs byte) place x ⌝ }
+{
+    let s = 6 - 2 * place;
+    byte & (255 - (3 << s)) | (x << s)
 }
 
 // Four fields as a record's byte, the first in its most significant bits.
