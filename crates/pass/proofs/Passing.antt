@@ -6,13 +6,14 @@ use native.Mathlib.Nat.{add-zero}
 use native.Mathlib.Numerals.{add-one}
 use native.Mathlib.Omega.{arith}
 use lib.ListN.{length, getD, set, take, drop, length-set, take-append-drop, drop-of-length-le}
-use lib.Seq.{take-suc-set, drop-set-lt, drop-cons}
-use Rattle.three.specs.Value.{Three, both, ternary}
-use Rattle.three.proofs.Lists.{length-tabulate, getD-tabulate}
+use lib.Seq.{take-suc-set, drop-set-lt, drop-cons, drop-drop, drop-append-add, take-at, length-take-le}
+use Rattle.three.specs.Lists.{tabulate}
+use Rattle.three.specs.Value.{Three, Logic, both, ternary}
+use Rattle.three.proofs.Lists.{length-tabulate, getD-tabulate, tabulate-append, tabulate-ext}
 use Rattle.circuit.specs.Circuit.{Gate, value, pass}
 use Rattle.circuit.specs.RulesInCode.{gatesFrom}
-use Rattle.pass.specs.ValuesInCode.{valuesOf, Working, Gateable, passed}
-use Rattle.circuit.proofs.Pass.{value-take}
+use Rattle.pass.specs.ValuesInCode.{valuesOf, Working, Holding, Gateable, passed}
+use Rattle.circuit.proofs.Pass.{value-take, length-pass}
 use Rattle.pass.proofs.Values.{length-values}
 
 module _ (words : List ℕ) (at first count : ℕ) where
@@ -67,3 +68,44 @@ module _ (words : List ℕ) (at first count : ℕ) where
           let i= : i ≡ count = omega (arith, t .within) in
           let s = rw (gates-end i h, i=) at (t .same) in
           sym (take-append-drop (first + count) vs) ∙ ap₂ (λ (a b : List Three). a ++ b) s (t .rest)
+
+-- ---- gates in parts: k of them, and then n more from word `from` on, the first of these variable `own`
+
+pass-append : {A : Type 0} (logic : Logic A) (vs : List A) (gs hs : List Gate) → pass logic vs (gs ++ hs) ≡ pass logic (pass logic vs gs) hs
+unfolding pass
+pass-append logic vs [] hs = refl
+pass-append logic vs (g ∷ gs) hs = pass-append logic _ gs hs
+
+module _ (words : List ℕ) (at first : ℕ) where
+  pub passed-none : (vs : List Three) → vs ≡ passed words at first 0 vs
+  unfolding passed pass tabulate
+  passed-none vs = rw add-zero (sym (take-append-drop first vs))
+
+  module _ (k n from own : ℕ) (place : from ≡ at + 2 * k) (named : own ≡ first + k) where
+    pub gateable-part : (count : ℕ) → k + n ≤ count → Gateable words at first count → Gateable words from own n
+    gateable-part count h g = record {
+      long = omega (arith, g .long);
+      room = omega (arith, g .room);
+      left = λ i l. let e : from + 2 * i ≡ at + 2 * (k + i) = omega arith in rw e (omega (arith, g .left (k + i) (omega arith)));
+      right = λ i l. let e : from + 2 * i ≡ at + 2 * (k + i) = omega arith in rw e (omega (arith, g .right (k + i) (omega arith)));
+    }
+
+    gates-append : gatesFrom words at (k + n) ≡ gatesFrom words at k ++ gatesFrom words from n
+    gates-append =
+        tabulate-append k n _
+        ∙ ap (λ (l : List Gate). gatesFrom words at k ++ l)
+        (tabulate-ext n _ _ (λ i h. let e : at + 2 * (k + i) ≡ from + 2 * i = omega arith in ap (λ p. record { left = getD words p 0; right = getD words (p + 1) 0 }) e))
+
+    passed-part : (vs : List Three) → first + k ≤ length vs → passed words from own n (passed words at first k vs) ≡ passed words at first (k + n) vs
+    unfolding passed
+    passed-part vs fits =
+        let front : List Three = pass ternary (take first vs) (gatesFrom words at k) in
+        let long : length front ≡ own = length-pass ternary _ _ ∙ rw (length-tabulate, length-take-le first vs (omega arith)) (omega arith) in
+        let e : first + k + n ≡ first + (k + n) = omega arith in
+        ap₂ (λ (a b : List Three). a ++ b)
+        (ap (λ (l : List Three). pass ternary l (gatesFrom words from n)) (take-at front _ own long) ∙ sym (pass-append ternary _ (gatesFrom words at k) _) ∙ ap (pass ternary (take first vs)) (sym gates-append))
+        (ap (λ m. drop (m + n) (front ++ drop (first + k) vs)) (sym long) ∙ drop-append-add front _ n ∙ drop-drop n (first + k) vs ∙ ap (λ m. drop m vs) e)
+
+    pub holding-part : (t t′ : List ℕ) (vs : List Three) (count : ℕ) → first + k ≤ length vs → count ≡ k + n
+        → Holding t (passed words at first k vs) → Holding t′ (passed words from own n (valuesOf t)) → Holding t′ (passed words at first count vs)
+    holding-part t t′ vs count fits e h h′ = record { working = h′ .working; same = rw e (h′ .same ∙ ap (passed words from own n) (h .same) ∙ passed-part vs fits) }

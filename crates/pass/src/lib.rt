@@ -85,6 +85,33 @@ fn gates(table: &[u16], at: usize, first: usize, count: usize, values: &mut Valu
     }
 }
 
+// Those of whole bytes of the table, the first of them byte number `byte`.
+fn gate_bytes(table: &[u16], at: usize, byte: usize, count: usize, values: &mut Values)
+    requires { ⌜ Gateable (now table) at (4 * byte) (4 * count) × Working (now values) ⌝ }
+    ensures { λ _. ⌜ Holding (now (values .exit)) (passed (now (table .entry)) at (4 * byte) (4 * count) (valuesOf (now (values .entry)))) ⌝ }
+{
+    for k in 0..count {
+        gates(table, at + 8 * k, 4 * (byte + k), 4, values);
+    }
+}
+
+// All of them: where a byte's four values are of one turn, the places in it are known at compile time, which saves a quarter of a pass.
+fn all_gates(table: &[u16], at: usize, first: usize, count: usize, values: &mut Values)
+    requires { ⌜ Gateable (now table) at first count × Working (now values) ⌝ }
+    ensures { λ _. ⌜ Holding (now (values .exit)) (passed (now (table .entry)) at first count (valuesOf (now (values .entry)))) ⌝ }
+{
+    let front = 3 - (first + 3) % 4;
+    if count < front {
+        gates(table, at, first, count, values);
+        return;
+    }
+    let bytes = (count - front) / 4;
+    let done = front + 4 * bytes;
+    gates(table, at, first, front, values);
+    gate_bytes(table, at + 2 * front, (first + front) / 4, bytes, values);
+    gates(table, at + 2 * done, first + done, count - done, values);
+}
+
 // The fields of a record as the values of the variables from `first` on.
 fn load(bytes: &[u8], first: usize, count: usize, values: &mut Values)
     requires { ⌜ IsRecord count (now bytes) × (first + count ≤ 4096) × Working (now values) ⌝ }
@@ -103,7 +130,7 @@ pub fn settle_state(counts: Counts, table: &[u16], state: &[u8], values: &mut Va
 {
     let first = 1 + counts.inputs;
     load(state, first, counts.latches, values);
-    gates(
+    all_gates(
         table,
         circuit::gates_at(counts),
         first + counts.latches,

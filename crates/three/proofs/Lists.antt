@@ -3,7 +3,7 @@ use mathlib.Core.Path.{_≡_, refl, sym, ap, ap₂, _∙_}
 use mathlib.Core.Bool.{Bool, true, false, _&&_, _||_, false≢true, true≢false}
 use mathlib.Core.List.{List, [], _∷_, _++_, map}
 use Prim.Native.Nat.{ℕ, zero, suc, _+_, _-_, _<_, _≤_, suc-le-suc}
-use native.Mathlib.Nat.{le-of-suc-le-suc, not-suc-le-zero}
+use native.Mathlib.Nat.{le-of-suc-le-suc, not-suc-le-zero, zero-add, suc-add}
 use native.Mathlib.Omega.{arith}
 use lib.ListN.{length, getD, set}
 use Rattle.three.specs.Lists.{tabulate, every, adjust, Each, empty, also}
@@ -64,6 +64,14 @@ pub tabulate-getD {ℓ} : {A : Type ℓ} (l : List A) (d : A) → tabulate (leng
 unfolding tabulate
 tabulate-getD [] d = refl
 tabulate-getD (x ∷ l) d = ap (λ m. x ∷ m) (tabulate-getD l d)
+
+-- the first m, and those behind them
+pub tabulate-append {ℓ} : {A : Type ℓ} (m n : ℕ) (f : ℕ → A) → tabulate (m + n) f ≡ tabulate m f ++ tabulate n (λ i. f (m + i))
+unfolding tabulate
+tabulate-append zero n f = ap (λ k. tabulate k f) (zero-add n) ∙ tabulate-ext n f (λ i. f (zero + i)) (λ i h. ap f (sym (zero-add i)))
+tabulate-append (suc m) n f =
+    ap (λ k. tabulate k f) (suc-add m n)
+    ∙ ap (λ l. f zero ∷ l) (tabulate-append m n (λ i. f (suc i)) ∙ ap (λ l. tabulate m (λ i. f (suc i)) ++ l) (tabulate-ext n _ _ (λ i h. ap f (sym (suc-add m i)))))
 
 -- a function that differs at v alone
 pub tabulate-set : {A : Type 0} (n : ℕ) (f g : ℕ → A) (v : ℕ) {a : A} → g v ≡ a → ((i : ℕ) → (i ≡ v → ⊥) → g i ≡ f i) → tabulate n g ≡ set (tabulate n f) v a

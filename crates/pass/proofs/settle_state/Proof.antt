@@ -14,18 +14,18 @@ load-requires c κs = search needs
 gates-at-requires : tie.Need-gates-at-requires
 gates-at-requires c κs = search needs
 
-add-gates : tie.Need-add-gates
-add-gates c = search needs
+add-all-gates : tie.Need-add-all-gates
+add-all-gates c = search needs
 
-gates-requires : tie.Need-gates-requires
-gates-requires c κs = (rw (c .before .before .gates-at .ensures) (legal-gates _ _ (c .before .before .before .before .before .before .before .before .pre .0)), c .before .before .before .load .ensures .working)
+all-gates-requires : tie.Need-all-gates-requires
+all-gates-requires c κs = (rw (c .before .before .gates-at .ensures) (legal-gates _ _ (c .before .before .before .before .before .before .before .before .pre .0)), c .before .before .before .load .ensures .working)
 
 returns : tie.Need-returns
 returns c =
     let pre = c .before .before .before .before .before .before .before .before .before .pre in
-    state-begins _ _ (pre .0) _ (length-unpack _ _) _ _ _ (pre .2) (c .before .before .before .before .load .ensures) (rw (c .before .before .before .gates-at .ensures) at (c .gates .ensures))
+    state-begins _ _ (pre .0) _ (length-unpack _ _) _ _ _ (pre .2) (c .before .before .before .before .load .ensures) (rw (c .before .before .before .gates-at .ensures) at (c .all-gates .ensures))
 
 pub settle-state-spec : {M : Type 1} → statement M
 settle-state-spec =
     tie.close
-    (tie.spec add-first load-requires gates-at-requires add-gates gates-requires returns)
+    (tie.spec add-first load-requires gates-at-requires add-all-gates all-gates-requires returns)
