@@ -5,7 +5,7 @@
 #include <string.h>
 
 enum {
-    VARIABLES = CHUDRAVIK_MOST_VARIABLES + 1, /* "a working table of 4,096 values" */
+    VALUE_BYTES = (CHUDRAVIK_MOST_VARIABLES + 1) / 4, /* "a working table of 4,096 values", packed as a record */
     MOST_RECORD = CHUDRAVIK_RECORD_BYTES(CHUDRAVIK_MOST_LATCHES),
     MOST_LAMP_RECORD = CHUDRAVIK_RECORD_BYTES(CHUDRAVIK_MOST_LAMPS)
 };
@@ -31,6 +31,13 @@ static const uint8_t KNOWN[256] = {KNOWN_64(0), KNOWN_64(1), KNOWN_64(1), BAD_64
 static size_t record_length(size_t fields)
 {
     return CHUDRAVIK_RECORD_BYTES(fields);
+}
+
+/* A record's byte with the field at this place, 0 to 3, replaced. */
+static uint8_t put_field(uint8_t byte, size_t place, uint8_t value)
+{
+    unsigned shift = (unsigned)(6 - 2 * place);
+    return (uint8_t)((byte & ~(3u << shift)) | (unsigned)value << shift);
 }
 
 static uint8_t byte_of(uint8_t a, uint8_t b, uint8_t c, uint8_t d)
@@ -149,14 +156,39 @@ static uint32_t board_refusal(const chudravik_counts *counts, const uint16_t *ta
 
 static uint8_t literal(const uint8_t *values, uint16_t x)
 {
-    return LITERAL[x % 2][values[x / 2]];
+    return LITERAL[x % 2][(uint8_t)(values[x / 8] << (x & 6)) >> 6];
 }
 
-/* "Gates are taken in order", the first of them variable `first`. */
+static void put_variable(uint8_t *values, size_t v, uint8_t value)
+{
+    values[v / 4] = put_field(values[v / 4], v % 4, value);
+}
+
+static uint8_t gate(const uint16_t *gates, size_t i, const uint8_t *values)
+{
+    return AND[literal(values, gates[2 * i])][literal(values, gates[2 * i + 1])];
+}
+
+/* "Gates are taken in order", the first of them variable `first`: four at a turn where a byte is theirs alone. */
 static void pass(const uint16_t *restrict gates, size_t first, size_t count, uint8_t *restrict values)
 {
-    for (size_t i = 0; i < count; i++) {
-        values[first + i] = AND[literal(values, gates[2 * i])][literal(values, gates[2 * i + 1])];
+    size_t i = 0;
+    for (; i < count && (first + i) % 4 != 0; i++) {
+        put_variable(values, first + i, gate(gates, i, values));
+    }
+    for (; i + 4 <= count; i += 4) {
+        uint8_t *byte = &values[(first + i) / 4];
+        unsigned done = (unsigned)gate(gates, i, values) << 6;
+        *byte = (uint8_t)done;
+        done |= (unsigned)gate(gates, i + 1, values) << 4;
+        *byte = (uint8_t)done;
+        done |= (unsigned)gate(gates, i + 2, values) << 2;
+        *byte = (uint8_t)done;
+        done |= gate(gates, i + 3, values);
+        *byte = (uint8_t)done;
+    }
+    for (; i < count; i++) {
+        put_variable(values, first + i, gate(gates, i, values));
     }
 }
 
@@ -164,7 +196,7 @@ static void pass(const uint16_t *restrict gates, size_t first, size_t count, uin
 static void load(const uint8_t *restrict record, size_t first, size_t count, uint8_t *restrict values)
 {
     for (size_t i = 0; i < count; i++) {
-        values[first + i] = CHUDRAVIK_FIELD(record, i);
+        put_variable(values, first + i, CHUDRAVIK_FIELD(record, i));
     }
 }
 
@@ -222,7 +254,7 @@ uint32_t plain_tick(chudravik_counts counts, const uint16_t *table, size_t table
     if (next_bytes < record_length(counts.latches) || lamps_bytes < record_length(counts.lamps)) {
         return CHUDRAVIK_TOO_SHORT;
     }
-    uint8_t values[VARIABLES] = {CHUDRAVIK_LOW}; /* "entry 0 the constant" */
+    uint8_t values[VALUE_BYTES] = {CHUDRAVIK_LOW << 6}; /* "entry 0 the constant" */
     load(switches, 1, counts.inputs, values);
     settle_state(&counts, table, state, values);
     store_next(&counts, table, values, next);
@@ -302,7 +334,7 @@ static bool follow(const chudravik_counts *counts, const uint16_t *table, size_t
                    size_t *count, size_t *back)
 {
     size_t length = record_length(counts->latches);
-    uint8_t values[VARIABLES] = {CHUDRAVIK_LOW};
+    uint8_t values[VALUE_BYTES] = {CHUDRAVIK_LOW << 6};
     uint8_t b[MOST_RECORD];
     progress run = {.count = 1};
     store_start(table, counts->latches, cubes);
@@ -326,7 +358,7 @@ static void judge_lamps(const chudravik_counts *counts, const uint16_t *table, c
                         uint8_t *verdict)
 {
     size_t length = record_length(counts->latches);
-    uint8_t values[VARIABLES] = {CHUDRAVIK_LOW};
+    uint8_t values[VALUE_BYTES] = {CHUDRAVIK_LOW << 6};
     uint8_t lamps[MOST_LAMP_RECORD];
     settle_state(counts, table, cubes, values);
     store_lamps(counts, table, values, verdict);

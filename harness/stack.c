@@ -1,5 +1,7 @@
-/* How much stack each call takes, on the largest circuit that the ceilings allow: it must be under the figure of
- * include/chudravik.h. Each call runs on a stack of its own that was filled with a pattern.
+/* How much stack each call takes: it must be under the figure of include/chudravik.h, and that below 4 KiB. A call's frames
+ * have a fixed size, so that no circuit should matter; measured are the largest circuit that the ceilings allow, the
+ * smallest, and on the largest the refusals that come last. Each call runs on a stack of its own that was filled with a
+ * pattern.
  *
  * stack
  */
@@ -13,11 +15,15 @@
 
 enum { STACK = 1 << 20, PATTERN = 0xA5 };
 
+_Static_assert(CHUDRAVIK_MOST_STACK < 4096, "the classroom reader has 4 KiB of stack");
+
 static uint8_t stack[STACK];
 static ucontext_t here, there;
 
-static const chudravik_counts counts = {CHUDRAVIK_MOST_INPUTS, CHUDRAVIK_MOST_LATCHES, CHUDRAVIK_MOST_LAMPS,
-                                        CHUDRAVIK_MOST_GATES};
+static const chudravik_counts LARGEST = {CHUDRAVIK_MOST_INPUTS, CHUDRAVIK_MOST_LATCHES, CHUDRAVIK_MOST_LAMPS,
+                                         CHUDRAVIK_MOST_GATES};
+static const chudravik_counts SMALLEST = {.lamps = 1};
+static chudravik_counts counts;
 static uint16_t table[CHUDRAVIK_MOST_TABLE_WORDS];
 static uint8_t text[CHUDRAVIK_MOST_TEXT];
 static size_t text_bytes;
@@ -100,20 +106,55 @@ static size_t stack_of(void (*call)(void))
     return sizeof stack - untouched;
 }
 
+typedef struct {
+    const char *name;
+    void (*call)(void);
+} named_call;
+
+static const named_call WRITE = {"write", call_write}, READ = {"read", call_read}, TICK = {"tick", call_tick},
+                        RUN = {"run", call_run}, COVER = {"cover", call_cover};
+static size_t nothing;
+
+/* Whether the call gives this number, and takes no more stack than it may. */
+static int measured(named_call c, const char *what, uint32_t due)
+{
+    size_t used = stack_of(c.call) - nothing;
+    printf("%-5s %s: number %u, %zu bytes of stack\n", c.name, what, (unsigned)number, used);
+    return number == due && used <= CHUDRAVIK_MOST_STACK;
+}
+
+/* The write comes first: the text that it leaves is read. */
+static int accepted(const char *what)
+{
+    return measured(WRITE, what, CHUDRAVIK_ACCEPTED) & measured(READ, what, CHUDRAVIK_ACCEPTED) &
+           measured(TICK, what, CHUDRAVIK_ACCEPTED) & measured(RUN, what, CHUDRAVIK_ACCEPTED) &
+           measured(COVER, what, CHUDRAVIK_ACCEPTED);
+}
+
+static int refused(const char *what)
+{
+    int passed;
+    text[text_bytes++] = '0';
+    passed = measured(READ, what, CHUDRAVIK_TRAILING);
+    latches[sizeof latches - 1] = 3;
+    passed &= measured(TICK, what, CHUDRAVIK_RECORD);
+    latches[sizeof latches - 1] = 0;
+    table[CHUDRAVIK_MOST_TABLE_WORDS - 1] = UINT16_MAX;
+    passed &= measured(WRITE, what, CHUDRAVIK_TABLE) & measured(RUN, what, CHUDRAVIK_TABLE) &
+              measured(COVER, what, CHUDRAVIK_TABLE);
+    table[CHUDRAVIK_MOST_TABLE_WORDS - 1] = 0;
+    return passed;
+}
+
 int main(void)
 {
-    static const struct {
-        const char *name;
-        void (*call)(void);
-    } calls[] = {{"write", call_write}, {"read", call_read}, {"tick", call_tick}, {"run", call_run},
-                 {"cover", call_cover}};
-    int failed = 0;
+    int passed;
+    nothing = stack_of(call_nothing);
+    counts = SMALLEST;
+    passed = accepted("on the smallest circuit");
+    counts = LARGEST;
     make_circuit();
-    size_t nothing = stack_of(call_nothing);
-    for (size_t i = 0; i < sizeof calls / sizeof calls[0]; i++) {
-        size_t used = stack_of(calls[i].call) - nothing;
-        printf("%-5s number %u, %zu bytes of stack\n", calls[i].name, (unsigned)number, used);
-        failed |= number != 0 || used > CHUDRAVIK_MOST_STACK;
-    }
-    return failed;
+    passed &= accepted("on the largest circuit");
+    passed &= refused("refused");
+    return passed ? 0 : 1;
 }

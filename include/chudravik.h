@@ -5,7 +5,8 @@
  *
  * A buffer is a pointer and a length: in bytes, and for a table in 16-bit words. Nothing beyond a buffer's length is
  * read or written, and no call allocates, keeps a pointer, or touches anything else. A buffer of length 0 may be a null
- * pointer. A call takes at most CHUDRAVIK_MOST_STACK bytes of stack. (Null pointers and stack are tested, not proved.)
+ * pointer. A call takes at most CHUDRAVIK_MOST_STACK bytes of stack, whatever it is given, unless it says otherwise
+ * below. (Null pointers and stack are tested, not proved.)
  *
  * Calls are safe in parallel, from any threads: they share nothing. Calls that run at the same time may be given the
  * same buffer; one that a call fills is that call's alone while it runs.
@@ -48,7 +49,7 @@ extern "C" {
 #define CHUDRAVIK_MOST_WRITTEN 58415     /* bytes of a text that is written: no circuit needs more */
 #define CHUDRAVIK_MOST_INTERVAL 1000     /* w */
 #define CHUDRAVIK_MOST_CUBE_BYTES 65536  /* the cube buffer */
-#define CHUDRAVIK_MOST_STACK 8192
+#define CHUDRAVIK_MOST_STACK 3072
 
 /* ---- lengths ---- */
 

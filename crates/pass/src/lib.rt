@@ -15,14 +15,15 @@ ghost use Rattle.circuit.specs.Table.{circuitOf};
 ghost use Rattle.circuit.specs.RulesInCode.{Legal};
 ghost use Rattle.pass.specs.ValuesInCode.{valuesOf, freshValues, Working, Holding, Begins, signTable, Gateable, Readable, literalValues, passed};
 
-// A working table of 4,096 values, packed as a record.
-pub type Values = [u8; 1024];
+// A working table of 4,096 values, packed as a record: two bits each.
+const VALUE_BYTES: usize = 1024;
+pub type Values = [u8; VALUE_BYTES];
 
 // It is made and reached through these three functions alone.
 pub fn fresh_values() -> Values
     ensures { λ r. ⌜ Holding r freshValues ⌝ }
 {
-    let mut values = [0u8; 1024];
+    let mut values = [0u8; VALUE_BYTES];
     put_variable(&mut values, 0, 1); // the constant
     values
 }
@@ -85,7 +86,7 @@ fn gates(table: &[u16], at: usize, first: usize, count: usize, values: &mut Valu
     }
 }
 
-// Those of whole bytes of the table, the first of them byte number `byte`.
+// Gates that fill whole bytes of the working table, from byte number `byte` on.
 fn gate_bytes(table: &[u16], at: usize, byte: usize, count: usize, values: &mut Values)
     requires { ⌜ Gateable (now table) at (4 * byte) (4 * count) × Working (now values) ⌝ }
     ensures { λ _. ⌜ Holding (now (values .exit)) (passed (now (table .entry)) at (4 * byte) (4 * count) (valuesOf (now (values .entry)))) ⌝ }
@@ -95,7 +96,7 @@ fn gate_bytes(table: &[u16], at: usize, byte: usize, count: usize, values: &mut 
     }
 }
 
-// All of them: where a byte's four values are of one turn, the places in it are known at compile time, which saves a quarter of a pass.
+// All of them. The four gates of a byte stand together, so that the compiler knows their places in it: a pass takes a quarter less time.
 fn all_gates(table: &[u16], at: usize, first: usize, count: usize, values: &mut Values)
     requires { ⌜ Gateable (now table) at first count × Working (now values) ⌝ }
     ensures { λ _. ⌜ Holding (now (values .exit)) (passed (now (table .entry)) at first count (valuesOf (now (values .entry)))) ⌝ }
