@@ -17,6 +17,7 @@ ghost use Rattle.pass.specs.ValuesInCode.{valuesOf, freshValues, Working
 
 // A working table of 4,096 values, packed as a record: two bits each.
 const VALUE_BYTES: usize = 1024;
+
 pub type Values = [u8; VALUE_BYTES];
 
 // It is made and reached through these three functions alone.
