@@ -7,34 +7,60 @@ use borrow.Author.Tests.{ne-eqb}
 use lib.ListN.{length, getD}
 use Rattle.text.specs.Part.{Part, got, ill}
 use Rattle.text.specs.Decimal.{readNumber}
-use Rattle.text.specs.Line.{newline, space, strip}
+use Rattle.text.specs.Line.{newline, officeNewline, space, strip}
 use Rattle.lines.specs.declared.ReadNumber.{ReadNumber}
 use Rattle.lines.specs.declared.ReadNumber.the-variants.{Value, NoNumber}
 use Rattle.lines.specs.declared.Ending.{Ending}
-use Rattle.lines.specs.declared.Ending.the-variants.{Newline}
+use Rattle.lines.specs.declared.Ending.the-variants.{Newline, OfficeNewline}
 use Rattle.lines.specs.declared.InLine.the-variants.{Last, More, NotInLine}
 use Rattle.lines.specs.LinesInCode.{from, numberPart, numberEnd, NumberFound, linePart, lineEnd, endingBytes, stripped, EndingAt, FoundInLine}
-use Rattle.text.proofs.Lines.{strip-front, strip-none, strip-other, number-ill, number-last, number-more, number-other}
+use Rattle.text.proofs.Lines.{strip-front, strip-none, strip-other, strip-same, number-ill, number-last, number-more, number-other}
 use Rattle.lines.proofs.Numbers.{from-end, from-byte}
 
 -- ---- an ending
 
-strip-byte : (b d : ℕ) (t : List ℕ) → (d ≡ b → ⊥) → strip (b ∷ []) (d ∷ t) ≡ ill
-strip-byte b d t h = strip-other b d [] t (ne-eqb b d (λ e. h (sym e)))
+strip-byte : (b : ℕ) (bs : List ℕ) (d : ℕ) (t : List ℕ) → (d ≡ b → ⊥) → strip (b ∷ bs) (d ∷ t) ≡ ill
+strip-byte b bs d t h = strip-other b d bs t (ne-eqb b d (λ e. h (sym e)))
 
 module _ (text : List ℕ) (at : ℕ) where
   pub ending-end : (e : Ending) → at ≡ length text → EndingAt (endingBytes e) text at 0
   unfolding stripped
   ending-end Newline h = record { reads = rw (from-end text at (omega arith)) (strip-none 10 []); within = omega arith }
+  ending-end OfficeNewline h = record { reads = rw (from-end text at (omega arith)) (strip-none 13 newline); within = omega arith }
 
-  module _ (h : at < length text) where
-    pub ending-here : (e : Ending) → getD text at 0 ≡ 10 → EndingAt (endingBytes e) text at 1
+  module _ (h : at < length text) {e : Ending} where
+    -- byte 10
+    pub newline-here : e ≡ Newline → getD text at 0 ≡ 10 → EndingAt (endingBytes e) text at 1
     unfolding stripped
-    ending-here Newline b = record { reads = rw (from-byte text at h, b) (strip-front newline _); within = omega arith }
+    newline-here q b = rw q (record { reads = rw (from-byte text at h, b) (strip-front newline _); within = omega arith })
 
-    pub ending-other : (e : Ending) → (getD text at 0 ≡ 10 → ⊥) → EndingAt (endingBytes e) text at 0
+    pub newline-other : e ≡ Newline → (getD text at 0 ≡ 10 → ⊥) → EndingAt (endingBytes e) text at 0
     unfolding stripped
-    ending-other Newline b = record { reads = rw (from-byte text at h) (strip-byte 10 _ _ b); within = omega arith }
+    newline-other q b = rw q (record { reads = rw (from-byte text at h) (strip-byte 10 [] _ _ b); within = omega arith })
+
+    -- bytes 13 and 10
+    pub office-other : e ≡ OfficeNewline → (getD text at 0 ≡ 13 → ⊥) → EndingAt (endingBytes e) text at 0
+    unfolding stripped
+    office-other q b = rw q (record { reads = rw (from-byte text at h) (strip-byte 13 newline _ _ b); within = omega arith })
+
+    module _ (q : e ≡ OfficeNewline) (b : getD text at 0 ≡ 13) where
+      past-13 : strip officeNewline (from text at) ≡ strip newline (from text (at + 1))
+      past-13 = rw (from-byte text at h, b) (strip-same 13 13 newline _ refl)
+
+      pub office-lone : at + 1 ≡ length text → EndingAt (endingBytes e) text at 0
+      unfolding stripped
+      office-lone l = rw q (record { reads = past-13 ∙ rw (from-end text (at + 1) (omega arith)) (strip-none 10 []); within = omega arith })
+
+      module _ (l : at + 1 < length text) where
+        pub office-here : getD text (at + 1) 0 ≡ 10 → EndingAt (endingBytes e) text at 2
+        unfolding stripped
+        office-here d =
+            let p : at + 1 + 1 ≡ at + 2 = omega arith in
+            rw q (record { reads = past-13 ∙ rw (from-byte text (at + 1) l, d, p) (strip-front newline _); within = omega arith })
+
+        pub office-cut : (getD text (at + 1) 0 ≡ 10 → ⊥) → EndingAt (endingBytes e) text at 0
+        unfolding stripped
+        office-cut d = rw q (record { reads = past-13 ∙ rw (from-byte text (at + 1) l) (strip-byte 10 [] _ _ d); within = omega arith })
 
 -- what it says of its length
 pub ending-none : {ending text : List ℕ} {at n : ℕ} → EndingAt ending text at n → n ≡ 0 → strip ending (from text at) ≡ ill
@@ -80,4 +106,4 @@ module _ (ending text : List ℕ) (at : ℕ) {n : ReadNumber} (found : NumberFou
         in-line-more b = record { reads = λ most. number-more ending most _ number-got (ending-none behind z) (rw (from-byte text end h, b) (strip-front space _)); within = omega arith }
 
         pub in-line-other : (getD text end 0 ≡ 32 → ⊥) → FoundInLine ending text (from text at) NotInLine
-        in-line-other b = in-line-not (rw (from-byte text end h) (strip-byte 32 _ _ b))
+        in-line-other b = in-line-not (rw (from-byte text end h) (strip-byte 32 [] _ _ b))

@@ -7,13 +7,13 @@ use lib.ListN.{length, take, drop}
 use Rattle.lines.specs.declared.ReadNumber.{ReadNumber}
 use Rattle.lines.specs.declared.ReadNumber.the-variants.{Value, NoNumber}
 use Rattle.lines.specs.declared.Ending.{Ending}
-use Rattle.lines.specs.declared.Ending.the-variants.{Newline}
+use Rattle.lines.specs.declared.Ending.the-variants.{Newline, OfficeNewline}
 use Rattle.lines.specs.declared.InLine.{InLine}
 use Rattle.lines.specs.declared.InLine.the-variants.{Last, More, NotInLine}
 use Rattle.lines.specs.declared.ReadLine.{ReadLine}
 use Rattle.text.specs.Part.{Part, got, ill}
 use Rattle.text.specs.Decimal.{isDigit}
-use Rattle.text.specs.Line.{newline, strip, prepend, splitLine}
+use Rattle.text.specs.Line.{newline, officeNewline, strip, prepend, splitLine}
 
 -- the text from a position on
 unfoldable pub from : List ℕ → ℕ → List ℕ
@@ -42,6 +42,7 @@ pub record NumberFound (text : List ℕ) (p : Part ℕ) (n : ReadNumber) : Type 
 -- the ending that the code means
 abbrev pub endingBytes : Ending → List ℕ
 endingBytes Newline = newline
+endingBytes OfficeNewline = officeNewline
 
 -- the text behind an ending of so many bytes; there is none of no byte
 unfoldable pub stripped : ℕ → List ℕ → Part (Unit {0})

@@ -18,6 +18,7 @@ pub enum ReadNumber {
 // What ends the lines of a text.
 pub enum Ending {
     Newline,
+    OfficeNewline,
 }
 
 // A number with what stands behind it, the line's ending or a space.
@@ -88,7 +89,7 @@ fn number(text: &[u8], at: usize) -> ReadNumber
     }
 }
 
-// Each line ends in byte 10: the length of an ending at a position, and 0 where there is none.
+// The length of a line's ending at a position, and 0 where there is none: byte 10, or bytes 13 and 10.
 pub fn ending_at(text: &[u8], at: usize, ending: Ending) -> usize
     requires { ⌜ at ≤ length (now text) ⌝ }
     ensures { λ r. ⌜ EndingAt (endingBytes ending) (now (text .entry)) at r ⌝ }
@@ -96,10 +97,26 @@ pub fn ending_at(text: &[u8], at: usize, ending: Ending) -> usize
     if at == text.len() {
         return 0;
     }
-    if text[at] == 10 {
-        return 1;
+    match ending {
+        Ending::Newline => {
+            if text[at] == 10 {
+                return 1;
+            }
+            return 0;
+        }
+        Ending::OfficeNewline => {
+            if text[at] != 13 {
+                return 0;
+            }
+            if at + 1 == text.len() {
+                return 0; // a lone 13
+            }
+            if text[at + 1] == 10 {
+                return 2;
+            }
+            return 0;
+        }
     }
-    0
 }
 
 // One space between.

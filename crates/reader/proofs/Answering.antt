@@ -16,7 +16,7 @@ use Rattle.circuit.specs.RulesInCode.{Bounded}
 use Rattle.text.specs.Part.{got}
 use Rattle.text.specs.Outcome.{accepted, refused, onward, leaves}
 use Rattle.text.specs.OutcomeInCode.{after}
-use Rattle.text.specs.Text.{lineTests, ends, Lines, readLines, header, countsOf, headerTests, readEnded, readText}
+use Rattle.text.specs.Text.{lineTests, ends, Lines, readLines, header, countsOf, headerTests, readEnded, endingOf, readText}
 use Rattle.text.proofs.Steps.{thenEnds, header-ill, header-stops, header-fits, lines-stop, end-stops, end-fits, ended-long}
 use Rattle.text.specs.Calls.{zeros, Reading}
 use Rattle.lines.specs.declared.ReadLine.{ReadLine}
@@ -28,12 +28,11 @@ use Rattle.reader.specs.ReaderInCode.{left, LinesJudged, kindsThen, line
 use Rattle.circuit.proofs.Refusals.{passes}
 use Rattle.circuit.proofs.Legality.{passed-bounded}
 use Rattle.text.proofs.Outcomes.{accepted-same}
-use Rattle.text.proofs.Grammar.{describes}
+use Rattle.text.proofs.Endings.{describes}
 use Rattle.text.proofs.Answers.{read-stops, read-short, read-fits, reading-refused, reading-accepted}
 use Rattle.reader.proofs.Opening.{header-count}
 use Rattle.reader.proofs.Bodies.{refused-left, accepted-left, after-refused, after-none}
 use Rattle.lines.proofs.Finding.{line-got, line-ill-formed}
-use Rattle.text.specs.Line.{newline}
 
 -- ---- the first pass
 
@@ -94,30 +93,32 @@ module _ (ending text : List ℕ) where
           unfolding onward
           judged-body t = record { bounded = judged-bounded; within = f .within; accepts = accepts; reads = goes-on ∙ rw (end-fits ending accepts (sym behind ∙ t)) }
 
--- ---- the reader: "each line ends in byte 10"
+-- ---- the reader
 
 pub starts : {ending text : List ℕ} {j : Judgement} → TextJudged ending text j → {c : Counts} {at : ℕ} → j ≡ Body c at → BodyAt ending text c at
 starts {ending} {text} t e = subst (TextJudged ending text) e t
 
-module _ (text table : List ℕ) {j : Judgement} (t : TextJudged newline text j) where
+read-so : (text : List ℕ) {ending : List ℕ} → endingOf text ≡ ending → readText text ≡ readEnded ending text
+unfolding readText
+read-so text decided = ap (λ (e : List ℕ). readEnded e text) decided
+
+module _ {ending : List ℕ} (text table : List ℕ) (decided : endingOf text ≡ ending) {j : Judgement} (t : TextJudged ending text j) where
   pub answers-refused : {m n : ℕ} {c : Counts} → j ≡ Refused m → n ≡ m → c ≡ zeros → Reading text table n c table
-  unfolding readText
-  answers-refused e q k = rw (q, k) (reading-refused text table (read-stops text table (subst (TextJudged newline text) e t)))
+  answers-refused e q k = rw (q, k) (reading-refused text table (read-stops text table (read-so text decided ∙ subst (TextJudged ending text) e t)))
 
   module _ {c : Counts} {at : ℕ} (e : j ≡ Body c at) where
-    here : BodyAt newline text c at
+    here : BodyAt ending text c at
     here = starts t e
 
-    text-read : readText text ≡ accepted (record { counts = c; words = bodyWords newline c (kinds c) (from text at) })
-    unfolding readText
-    text-read = here .reads
+    text-read : readText text ≡ accepted (record { counts = c; words = bodyWords ending c (kinds c) (from text at) })
+    text-read = read-so text decided ∙ here .reads
 
     pub answers-short : {n : ℕ} {z : Counts} → n ≡ 10 → z ≡ zeros → length table < tableLength c → Reading text table n z table
     answers-short q k s = rw (q, k) (reading-refused text table (read-short text table text-read s))
 
     module _ (s : tableLength c ≤ length table) where
-      pub fillable : Fillable newline text c (stand (kinds c) at 0 table)
+      pub fillable : Fillable ending text c (stand (kinds c) at 0 table)
       fillable = record { bounded = here .bounded; within = here .within; accepts = here .accepts; room = omega (arith, describes text text-read .whole) }
 
-      pub answers-filled : {table′ : List ℕ} → table′ ≡ over (bodyWords newline c (kinds c) (from text at)) table → Reading text table 0 c table′
+      pub answers-filled : {table′ : List ℕ} → table′ ≡ over (bodyWords ending c (kinds c) (from text at)) table → Reading text table 0 c table′
       answers-filled q = rw q (reading-accepted text table (read-fits text table text-read s))

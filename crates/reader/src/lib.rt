@@ -18,7 +18,7 @@ ghost use Rattle.three.specs.Lists.{over};
 ghost use Rattle.circuit.specs.Refusal.{refusal};
 ghost use Rattle.circuit.specs.Table.{top, input, latch, literal, gate, several, kinds};
 ghost use Rattle.circuit.specs.RulesInCode.{Bounded};
-ghost use Rattle.text.specs.Text.{words, lineTests, ends, header as firstLine, countsOf, headerTests};
+ghost use Rattle.text.specs.Text.{words, lineTests, ends, header as firstLine, countsOf, headerTests, endingOf};
 ghost use Rattle.text.specs.Calls.{zeros, Reading};
 ghost use Rattle.lines.specs.LinesInCode.{from, endingBytes, Shape, numbersOf, LineFound};
 ghost use Rattle.reader.specs.ReaderInCode.{opened, LinesJudged, kindsThen, TextJudged, WordsFit, bodyWords, stand, Fillable, KindFillable, KindFilled};
@@ -285,13 +285,13 @@ enum Judgement {
 }
 
 // Reader: 1, 2, 3, then line by line (4, 5, 6, then 7 or 8), 9: once over the text, and nothing is written.
-fn judge(text: &[u8], ending: Ending) -> Judgement
+fn judge(text: &[u8], ending: Ending, first: ReadLine) -> Judgement
+    requires { ⌜ LineFound (now text) (firstLine (endingBytes ending) (now text)) first ⌝ }
     ensures { λ r. ⌜ TextJudged (endingBytes ending) (now (text .entry)) r ⌝ }
 {
     if text.len() > MOST_TEXT {
         return Judgement::Refused(1);
     }
-    let first = header(text, ending);
     let in_header = header_refusal(first);
     if in_header != 0 {
         return Judgement::Refused(in_header);
@@ -402,12 +402,12 @@ fn refused(number: u32) -> ReadAnswer
     }
 }
 
-// The text is judged as a whole before a word is stored.
-pub fn read(text: &[u8], table: &mut [u16]) -> ReadAnswer
+// The text is judged as a whole before a word is stored; every line has the first one's ending.
+fn read_ended(text: &[u8], ending: Ending, first: ReadLine, table: &mut [u16]) -> ReadAnswer
+    requires { ⌜ LineFound (now text) (firstLine (endingBytes ending) (now text)) first × (endingOf (now text) ≡ endingBytes ending) ⌝ }
     ensures { λ r. ⌜ Reading (now (text .entry)) (now (table .entry)) (r .number) (r .counts) (now (table .exit)) ⌝ }
 {
-    let ending = Ending::Newline; // each line ends in byte 10
-    let judgement = judge(text, ending);
+    let judgement = judge(text, ending, first);
     match judgement {
         Judgement::Refused(number) => {
             return refused(number);
@@ -423,4 +423,16 @@ pub fn read(text: &[u8], table: &mut [u16]) -> ReadAnswer
             };
         }
     }
+}
+
+// The first line decides: byte 10 where it is a line with that ending, else bytes 13 and 10.
+pub fn read(text: &[u8], table: &mut [u16]) -> ReadAnswer
+    ensures { λ r. ⌜ Reading (now (text .entry)) (now (table .entry)) (r .number) (r .counts) (now (table .exit)) ⌝ }
+{
+    let first = header(text, Ending::Newline);
+    if first.count != 0 {
+        return read_ended(text, Ending::Newline, first, table);
+    }
+    let office = header(text, Ending::OfficeNewline);
+    read_ended(text, Ending::OfficeNewline, office, table)
 }

@@ -1,8 +1,7 @@
--- Which texts are accepted, exactly those that describe a circuit which 3, 10 and 11 do not refuse, and as what they are read (specification, 4.8). Assumes nothing.
+-- Which texts are accepted where lines have a given ending: exactly those that describe a circuit which 3, 10 and 11 do not refuse (specification, 4.8). Assumes nothing.
 use mathlib.Core.Path.{_≡_, refl, _∙_, ap}
 use mathlib.Core.Bool.{true, false≢true}
 use mathlib.Core.List.{List, [], _∷_, _++_}
-use mathlib.Core.Logic.{_↔_}
 use Prim.Native.Nat.{ℕ, _≤_, _<_}
 use native.Mathlib.Omega.{arith}
 use borrow.Author.Tests.{eqb-true, eq-eqb}
@@ -13,13 +12,13 @@ use Rattle.circuit.specs.Refusal.{refusal}
 use Rattle.circuit.specs.RulesInCode.{Passed, Bounded}
 use Rattle.circuit.specs.Table.{variables, top, tableLength, Kind, kinds, width, rowTests, tableTests, circuitTests}
 use Rattle.text.specs.Part.{got, ill}
-use Rattle.text.specs.Line.{newline, endedLine, strip}
+use Rattle.text.specs.Line.{endedLine, strip}
 use Rattle.text.specs.Outcome.{accepted, onward}
-use Rattle.text.specs.Text.{magic, headNumbers, words, lineTests, ends, Lines, readLines, header, countsOf, headerTests, Content, readEnded, readText}
+use Rattle.text.specs.Text.{magic, headNumbers, words, lineTests, ends, Lines, readLines, header, countsOf, headerTests, Content, readEnded}
 use Rattle.text.proofs.Parts.{by-part}
 use Rattle.circuit.proofs.Refusals.{passed-append, passed-refusal}
 use Rattle.text.proofs.Outcomes.{append-passed, accepted-same}
-use Rattle.text.proofs.Lines.{front-strip, Short, line-split, split-line, strip-front, Proper, newline-proper}
+use Rattle.text.proofs.Lines.{front-strip, Short, line-split, split-line, strip-front, Proper}
 use Rattle.text.proofs.Steps.{end-fits, line-fits, LineRead, line-accepted, header-fits, header-accepted, line-numbered}
 use Rattle.text.proofs.Tables.{size, size-kinds, Owned, owned-kinds, Taken, taken, taken-refusal}
 use Rattle.circuit.proofs.Legality.{passed-bounded, bounded-passed}
@@ -64,19 +63,24 @@ closing-ends ending done = refl
 closing-ends ending (noted t) = rw (ends, strip-front (99 ∷ ending) t)
 
 -- the first line's numbers
-head-fits : (c : Counts) → Bounded c → Short (headNumbers c) × Passed (headerTests (headNumbers c))
+pub head-fits : (c : Counts) → Bounded c → Short (headNumbers c) × Passed (headerTests (headNumbers c))
 unfolding headNumbers headerTests countsOf
 head-fits c b = (omega arith, (refl, (eq-eqb (variables c) (variables c) refl, bounded-passed c b)))
 
-described-read : {ending t : List ℕ} {c : Content} → Proper ending → Describes ending t c → readEnded ending t ≡ accepted c
-unfolding header strip headNumbers countsOf onward
+pub described-header : {ending t : List ℕ} {c : Content} → Proper ending → (d : Describes ending t c) → header ending t ≡ got (headNumbers (c .counts)) (d .body)
+unfolding header strip headNumbers
+described-header {ending} {t} {c} proper d =
+    let f = head-fits (c .counts) (taken (c .counts) (c .words) (d .legal) .bounded) in
+    rw (d .text) (line-split ending proper 5 (headNumbers (c .counts)) (d .body) (omega arith) (omega arith) (f .0))
+
+pub described-read : {ending t : List ℕ} {c : Content} → Proper ending → Describes ending t c → readEnded ending t ≡ accepted c
+unfolding headNumbers countsOf onward
 described-read {ending} {t} {c} proper d =
     let n : Counts = c .counts in
     let k : Taken n (c .words) = taken n (c .words) (d .legal) in
     let b = k .bounded in
     let f = head-fits n b in
-    let e : header ending t ≡ got (headNumbers n) (d .body) = rw (d .text) (line-split ending proper 5 (headNumbers n) (d .body) (omega arith) (omega arith) (f .0)) in
-    header-fits ending t (d .short) e (passed-refusal _ (f .1)) ∙ rw (end-fits ending (says-read proper (top n) (omega arith) (owned-kinds n) (d .says) (k .rules)) (closing-ends ending (d .closes)))
+    header-fits ending t (d .short) (described-header proper d) (passed-refusal _ (f .1)) ∙ rw (end-fits ending (says-read proper (top n) (omega arith) (owned-kinds n) (d .says) (k .rules)) (closing-ends ending (d .closes)))
 
 -- ---- what is read describes a circuit
 
@@ -119,7 +123,7 @@ header-text ending t a = by-part (strip magic t)
     (λ u s e. front-strip magic t s e ∙ ap (λ x. magic ++ x) (split-line ending 5 (rw (header, e) at a) .text))
     (λ e. let z : ill ≡ got _ _ = rw (header, e) at a in cc)
 
-read-describes : (ending t : List ℕ) {c : Content} → readEnded ending t ≡ accepted c → Describes ending t c
+pub read-describes : (ending t : List ℕ) {c : Content} → readEnded ending t ≡ accepted c → Describes ending t c
 unfolding headerTests
 read-describes ending t a =
     let h = header-accepted ending t a in
@@ -135,16 +139,3 @@ read-describes ending t a =
       says = b .says;
       closes = ends-closing ending _ (h .closed);
     })
-
--- ---- "each line ends in byte 10"
-
-pub described : {t : List ℕ} {c : Content} → Describes newline t c → readText t ≡ accepted c
-unfolding readText
-described d = described-read newline-proper d
-
-pub describes : (t : List ℕ) {c : Content} → readText t ≡ accepted c → Describes newline t c
-unfolding readText
-describes t a = read-describes newline t a
-
-pub grammar : (t : List ℕ) (c : Content) → (readText t ≡ accepted c) ↔ Describes newline t c
-grammar t c = (describes t, described)

@@ -8,6 +8,8 @@ pub mod Steps
 pub mod Numbers
 pub mod Spelling
 pub mod Grammar
+pub mod Endings
+pub mod Saved
 pub mod Bound
 pub mod Answers
 pub mod RoundTrip

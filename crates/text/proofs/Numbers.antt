@@ -4,10 +4,10 @@ use Prim.Native.Nat.{ℕ, zero, suc, _≤_}
 use native.Mathlib.Omega.{arith}
 use Rattle.circuit.specs.Refusal.{Test, refusal}
 use Rattle.circuit.specs.Table.{Kind, kinds}
-use Rattle.text.specs.Line.{newline, readLine}
+use Rattle.text.specs.Line.{readLine}
 use Rattle.text.specs.Outcome.{Outcome, accepted, refused, tested, further, onward}
 use Rattle.text.specs.OutcomeInCode.{after}
-use Rattle.text.specs.Text.{readLines, header, countsOf, readEnded, readText}
+use Rattle.text.specs.Text.{readLines, header, countsOf, readEnded, readText, endingOf}
 use Rattle.text.proofs.Parts.{by-part}
 
 abbrev pub HasNumber : {A : Type 0} → Outcome A → Type 0
@@ -39,8 +39,12 @@ lines-numbered ending tests (k ∷ ks) t = by-part (readLine ending t)
     (λ ns rest e. rw (readLines, e) (tested-numbered _ _ (onward-numbered _ _ (lines-numbered ending tests ks rest))))
     (λ e. rw (readLines, e) (omega arith))
 
-pub read-numbered : (t : List ℕ) → HasNumber (readText t)
-unfolding readText readEnded
-read-numbered t = by-part (header newline t)
+ended-numbered : (ending t : List ℕ) → HasNumber (readEnded ending t)
+unfolding readEnded
+ended-numbered ending t = by-part (header ending t)
     (λ ns rest e. rw (readEnded, e) (tested-numbered _ _ (tested-numbered _ _ (onward-numbered _ _ (further-numbered _ _ (lines-numbered _ _ (kinds (countsOf ns)) rest))))))
     (λ e. rw (readEnded, e) (tested-numbered _ (refused 2) (omega arith)))
+
+pub read-numbered : (t : List ℕ) → HasNumber (readText t)
+unfolding readText
+read-numbered t = ended-numbered (endingOf t) t

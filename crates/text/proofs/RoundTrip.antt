@@ -16,7 +16,8 @@ use Rattle.text.specs.Outcome.{accepted}
 use Rattle.text.specs.Text.{numbers, writeBody, writeText, Content, readText}
 use Rattle.text.specs.Calls.{Reading, Writing}
 use Rattle.text.proofs.Tables.{size, size-kinds, Due, Owned, owned-kinds, Taken, taken, taken-refusal}
-use Rattle.text.proofs.Grammar.{Says, stop, line, done, Describes, described, describes}
+use Rattle.text.proofs.Grammar.{Says, stop, line, done, Describes}
+use Rattle.text.proofs.Endings.{byNewline, described, describes}
 use Rattle.text.proofs.Spelling.{Spelled, shown-spelled, inputLine, lampLine, gateLine}
 use Rattle.text.proofs.Bound.{text-bound}
 use Rattle.text.proofs.Answers.{read-fits, reading-accepted, write-legal}
@@ -112,7 +113,7 @@ module _ (c : Counts) (table : List ℕ) (legal : 0 ≡ refusal (circuitTests c 
       }
 
   pub round-trip : readText (writeText c table) ≡ accepted (given c table)
-  round-trip = described written-describes
+  round-trip = described byNewline written-describes
 
 -- the reader, given the bytes that the writer wrote and a table that is long enough
 pub read-back : {c : Counts} {table buffer : List ℕ} {bytes : ℕ} {buffer′ : List ℕ} → Writing c table buffer 0 bytes buffer′

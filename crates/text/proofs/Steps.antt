@@ -12,9 +12,9 @@ use Rattle.circuit.specs.RulesInCode.{Passed}
 use Rattle.circuit.specs.Table.{top, ceilingTests, Kind, input, latch, gate, literal, kinds, rowTests}
 use Rattle.circuit.proofs.Refusals.{Numbered, stops, past, none}
 use Rattle.text.specs.Part.{got, ill}
-use Rattle.text.specs.Line.{newline, readLine}
+use Rattle.text.specs.Line.{readLine}
 use Rattle.text.specs.Outcome.{Outcome, accepted, refused, tested, further, onward}
-use Rattle.text.specs.Text.{words, lineTests, ends, Lines, readLines, header, countsOf, headerTests, Content, readEnded, readText}
+use Rattle.text.specs.Text.{words, lineTests, ends, Lines, readLines, header, countsOf, headerTests, Content, readEnded, endingOf, readText}
 use Rattle.text.proofs.Parts.{by-part}
 use Rattle.text.proofs.Outcomes.{tested-stops, tested-past, refused-accepted, tested-accepted, further-accepted, onward-accepted}
 
@@ -95,7 +95,7 @@ ended-long ending t h = tested-stops _ _ (stops _ [] (lt-leb (length t) 60000 h)
 
 pub text-long : (t : List ℕ) → 60000 < length t → readText t ≡ refused 1
 unfolding readText
-text-long t h = ended-long newline t h
+text-long t h = ended-long (endingOf t) t h
 
 module _ (ending t : List ℕ) (short : length t ≤ 60000) where
   text-short : {o : Outcome Content} → tested (leb (length t) 60000 or 1 ∷ []) o ≡ o

@@ -18,7 +18,9 @@ edges =
     ∷ "aag 00 0 0 0 0/" is 2
     ∷ "aag 0 0 0 0 0 /" is 2
     ∷ "aag 100000 0 0 0 0/" is 2
-    ∷ "aag 0 0 0 0 0\r/" is 2
+    ∷ "aag 0 0 0 0 0\r" is 2
+    ∷ "aag 0 0 0 0 0\r\r/" is 2
+    ∷ "aag 0 0 0 0\r/" is 2
     ∷ "aig 0 0 0 0 0/" is 2
     ∷ "aag 99999 0 0 0 0/" is 3
     ∷ "aag 257 257 0 0 0/" is 3
@@ -35,6 +37,10 @@ edges =
     ∷ "aag 1 0 1 0 0/2 3 0 0/" is 4
     ∷ "aag 1 0 1 0 0/2 100000/" is 4
     ∷ "aag 1 0 0 0 1/2 0/" is 4
+    ∷ "aag 1 1 0 0 0\r/2/" is 4
+    ∷ "aag 1 1 0 0 0/2\r/" is 4
+    ∷ "aag 1 1 0 0 0\r/2\r" is 4
+    ∷ "aag 2 2 0 0 0\r/2\r/4/" is 4
     ∷ "aag 1 1 0 0 0/4/" is 5
     ∷ "aag 1 1 0 0 0/3/" is 5
     ∷ "aag 1 0 1 0 0/4 9 9/" is 5
@@ -48,11 +54,17 @@ edges =
     ∷ "aag 2 1 1 0 0/2/4 5 2/" is 8
     ∷ "aag 1 0 1 0 0/4 3 4/" is 5
     ∷ "aag 0 0 0 0 0/c" is 9
+    ∷ "aag 0 0 0 0 0/c\r/" is 9
+    ∷ "aag 0 0 0 0 0\r/c/" is 9
+    ∷ "aag 0 0 0 0 0\r/c\r" is 9
     ∷ "aag 0 0 0 0 0/c x/" is 9
     ∷ "aag 0 0 0 0 0//" is 9
     ∷ "aag 0 0 0 0 0/i0 a/" is 9
     ∷ says "aag 0 0 0 0 0/c/" 0 0 0 0 []
     ∷ says "aag 0 0 0 0 0/c/anything" 0 0 0 0 []
+    ∷ says "aag 0 0 0 0 0\r/" 0 0 0 0 []
+    ∷ says "aag 0 0 0 0 0\r/c\r/any/thing" 0 0 0 0 []
+    ∷ says "aag 1 0 1 1 0\r/2 3\r/2\r/" 0 1 1 0 (3 ∷ 0 ∷ 2 ∷ [])
     ∷ says "aag 1 0 1 0 0/2 3 0/" 0 1 0 0 (3 ∷ 0 ∷ [])
     ∷ says "aag 2 0 2 0 0/2 3 2/4 5 4/" 0 2 0 0 (3 ∷ 2 ∷ 5 ∷ 2 ∷ [])
     ∷ says "aag 1 0 0 0 1/2 0 1/" 0 0 0 1 (0 ∷ 1 ∷ [])

@@ -10,6 +10,10 @@ use Rattle.text.specs.Decimal.{decimal, readNumber}
 abbrev pub newline : List ℕ
 newline = 10 ∷ []
 
+-- bytes 13 and 10, which end each line of a text that an office computer saved
+abbrev pub officeNewline : List ℕ
+officeNewline = 13 ∷ 10 ∷ []
+
 -- what stands between two numbers
 abbrev pub space : List ℕ
 space = 32 ∷ []

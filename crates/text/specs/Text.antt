@@ -9,7 +9,7 @@ use Rattle.circuit.specs.declared.Counts.{Counts}
 use Rattle.circuit.specs.Refusal.{Test, _or_}
 use Rattle.circuit.specs.Table.{variables, top, ceilingTests, Kind, input, latch, literal, gate, kinds, width, rowTests}
 use Rattle.text.specs.Part.{Part, got, ill}
-use Rattle.text.specs.Line.{newline, lineText, strip, readLine, splitLine}
+use Rattle.text.specs.Line.{newline, officeNewline, lineText, strip, readLine, splitLine}
 use Rattle.text.specs.Outcome.{Outcome, accepted, refused, tested, further, onward}
 
 -- `aag` and a space
@@ -113,6 +113,10 @@ readEnded ending t = tested (leb (length t) 60000 or 1 ∷ []) (elim (header end
       (further (λ l. ends ending (l .rest) or 9 ∷ []) (readLines ending (lineTests (top (countsOf ns))) (kinds (countsOf ns)) rest)))
 ])
 
--- "each line ends in byte 10"
+-- "the first line decides": byte 10 where it is a line with that ending, else bytes 13 and 10
+unfoldable pub endingOf : List ℕ → List ℕ
+endingOf t = elim (header newline t) [ got ns r ↦ newline | ill ↦ officeNewline ]
+
+-- every line has the first one's ending
 unfoldable pub readText : List ℕ → Outcome Content
-readText t = readEnded newline t
+readText t = readEnded (endingOf t) t

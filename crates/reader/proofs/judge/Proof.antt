@@ -10,40 +10,39 @@ returns : tie.Need-returns
 returns c = judged-long _ _ (c .if1 .taken)
 
 returns-2 : tie.Need-returns-2
-returns-2 c = judged-header _ _ (c .before .before .before .if1 .left) (c .before .before .header .ensures) (c .before .header-refusal .ensures) (c .if2 .taken)
+returns-2 c = judged-header _ _ (c .before .before .if1 .left) (c .before .before .before .before .pre) (c .before .header-refusal .ensures) (c .if2 .taken)
 
 judge-body-requires : tie.Need-judge-body-requires
 judge-body-requires c κs =
     let refusal = c .before .before in
-    (judged-bounded _ _ (refusal .before .before .if1 .left) (refusal .before .header .ensures) (refusal .header-refusal .ensures) (c .before .if2 .left) (c .counts-of .ensures), omega arith)
+    (judged-bounded _ _ (refusal .before .if1 .left) (refusal .before .before .before .pre) (refusal .header-refusal .ensures) (c .before .if2 .left) (c .counts-of .ensures), omega arith)
 
 returns-3 : tie.Need-returns-3
 returns-3 c =
     let body = c .before .before in
     let counts = body .before in
     let refusal = counts .before .before in
-    judged-stops _ _ (refusal .before .before .if1 .left) (refusal .before .header .ensures) (refusal .header-refusal .ensures) (counts .before .if2 .left) (counts .counts-of .ensures) (body .judge-body .ensures) (c .if3 .taken)
+    judged-stops _ _ (refusal .before .if1 .left) (refusal .before .before .before .pre) (refusal .header-refusal .ensures) (counts .before .if2 .left) (counts .counts-of .ensures) (body .judge-body .ensures) (c .if3 .taken)
 
 returns-4 : tie.Need-returns-4
 returns-4 c =
     let body = c .before .before .before .before in
     let counts = body .before in
     let refusal = counts .before .before in
-    judged-open _ _ (refusal .before .before .if1 .left) (refusal .before .header .ensures) (refusal .header-refusal .ensures) (counts .before .if2 .left) (counts .counts-of .ensures) (body .judge-body .ensures) (c .before .before .if3 .left) (c .before .ended .ensures) (not-true _ (c .if4 .taken))
+    judged-open _ _ (refusal .before .if1 .left) (refusal .before .before .before .pre) (refusal .header-refusal .ensures) (counts .before .if2 .left) (counts .counts-of .ensures) (body .judge-body .ensures) (c .before .before .if3 .left) (c .before .ended .ensures) (not-true _ (c .if4 .taken))
 
 returns-5 : tie.Need-returns-5
 returns-5 c =
     let body = c .before .before .before .before in
     let counts = body .before in
     let refusal = counts .before .before in
-    judged-body _ _ (refusal .before .before .if1 .left) (refusal .before .header .ensures) (refusal .header-refusal .ensures) (counts .before .if2 .left) (counts .counts-of .ensures) (body .judge-body .ensures) (c .before .before .if3 .left) (c .before .ended .ensures) (not-false _ (c .if4 .left))
+    judged-body _ _ (refusal .before .if1 .left) (refusal .before .before .before .pre) (refusal .header-refusal .ensures) (counts .before .if2 .left) (counts .counts-of .ensures) (body .judge-body .ensures) (c .before .before .if3 .left) (c .before .ended .ensures) (not-false _ (c .if4 .left))
 
 pub judge-spec : {M : Type 1} → statement M
 judge-spec =
     tie.close
     (tie.spec
     returns
-    (λ c κs. search needs)
     (λ c κs. search needs)
     returns-2
     (λ c κs. search needs)

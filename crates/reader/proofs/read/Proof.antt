@@ -1,45 +1,26 @@
--- `reader::read` meets its contract: the text is judged as a whole before a word is stored. Assumes nothing.
-use Rattle.reader.proofs.Answering.{answers-refused, starts, answers-short, fillable, answers-filled}
+-- `reader::read` meets its contract: a first line that ends in byte 10 decides, and any other text is read as one of an office computer. Assumes nothing.
 use native.Mathlib.Omega.{arith}
 use borrow.Author.Needs.{needs}
+use Rattle.lines.proofs.Finding.{line-got, line-ill-formed}
+use Rattle.text.proofs.Endings.{ending-plain, ending-office}
 use Rattle.reader.proofs.read.Statement.{statement}
 use Rattle.reader.proofs.read.Tie as tie
 
-returns : tie.Need-returns
-returns c =
-    let known = c .before .before in
-    answers-refused _ _ (known .before .before .judge .ensures) (known .judgement .given .1) (c .refused .ensures .0) (c .refused .ensures .1)
+read-ended-requires : tie.Need-read-ended-requires
+read-ended-requires c κs = let first = c .before .before .before .header .ensures in (first, ending-plain _ (line-got _ first (omega arith)))
 
-table-length-requires : tie.Need-table-length-requires
-table-length-requires c κs = starts (c .before .before .before .judge .ensures) (c .before .judgement2 .given .1) .bounded
-
-returns-2 : tie.Need-returns-2
-returns-2 c =
-    let known = c .before .before .before .before in
-    answers-short _ _ (known .before .before .judge .ensures) (known .judgement2 .given .1) (c .refused2 .ensures .0) (c .refused2 .ensures .1) (omega arith)
-
-fill-requires : tie.Need-fill-requires
-fill-requires c κs =
-    let known = c .before .before .before .before in
-    fillable _ _ (known .before .before .judge .ensures) (known .judgement2 .given .1) (omega arith)
-
-returns-3 : tie.Need-returns-3
-returns-3 c =
-    let known = c .before .before .before .before .before .before .before in
-    answers-filled _ _ (known .before .before .judge .ensures) (known .judgement2 .given .1) (omega arith) (c .before .before .fill .ensures)
+read-ended-requires-2 : tie.Need-read-ended-requires-2
+read-ended-requires-2 c κs = (c .before .header2 .ensures, ending-office _ (line-ill-formed _ (c .before .before .before .before .header .ensures) (omega arith)))
 
 pub read-spec : {M : Type 1} → statement M
 read-spec =
     tie.close
     (tie.spec
     (λ c κs. search needs)
+    read-ended-requires
+    (λ c. search needs)
     (λ c. search needs)
     (λ c κs. search needs)
-    returns
+    read-ended-requires-2
     (λ c. search needs)
-    table-length-requires
-    (λ c κs. search needs)
-    returns-2
-    fill-requires
-    (λ c. search needs)
-    returns-3)
+    (λ c. search needs))
