@@ -276,6 +276,7 @@ typedef struct {
 } pair;
 
 static const pair READING = {"read", library_read, c_read};
+static const pair READING_OFFICE = {"read13", library_read, c_read};
 static const pair WRITING = {"write", library_write, c_write};
 static const pair TICKING = {"tick", library_tick, c_tick};
 static const pair RUNNING = {"run", library_run, c_run};
@@ -333,7 +334,10 @@ static void check_texts(const request *sound)
     expect_text(&r, "aag 1 1 0 0 0\n4\n", CHUDRAVIK_OWN_LITERAL);
     expect_text(&r, "aag 2 1 0 0 1\n2\n4 6 2\n", CHUDRAVIK_LITERAL_TOO_LARGE);
     expect_text(&r, "aag 2 1 0 0 1\n2\n4 4 2\n", CHUDRAVIK_OPERAND_NOT_BELOW);
-    expect_text(&r, "aag 1 0 1 0 0\n2 2 2\n", CHUDRAVIK_RESET);
+    expect_text(&r, "aag 1 0 1 0 0\n2 2 3\n", CHUDRAVIK_RESET);
+    expect_text(&r, "aag 1 0 1 0 0\n2 2 2\n", CHUDRAVIK_ACCEPTED);
+    expect_text(&r, "aag 1 0 1 0 0\r\n2 2\r\n", CHUDRAVIK_ACCEPTED);
+    expect_text(&r, "aag 1 0 1 0 0\r\n2 2\n", CHUDRAVIK_BODY_LINE);
     expect_text(&r, "aag 0 0 0 0 0\ncc\n", CHUDRAVIK_TRAILING);
     expect_text(&r, "aag 0 0 0 0 0\nc\n", CHUDRAVIK_ACCEPTED);
     expect_text(&r, "aag 0 0 0 0 0\nc", CHUDRAVIK_TRAILING); /* the newline still stands behind it */
@@ -352,7 +356,7 @@ static void check_circuits(const request *sound)
         r.table_words = CHUDRAVIK_TABLE_WORDS(r.counts.latches, r.counts.lamps, r.counts.gates) - 1;
         expect(GIVEN[i], &r, CHUDRAVIK_TOO_SHORT);
         r = *sound;
-        r.table[1] = 2;
+        r.table[1] = CHUDRAVIK_NO_START + 1;
         expect(GIVEN[i], &r, CHUDRAVIK_TABLE);
     }
     r = *sound;
@@ -471,6 +475,21 @@ static times measure(const pair *p, const request *r, size_t rounds)
 /* ---- the report ---- */
 
 static request requests[CIRCUITS];
+
+/* The same with bytes 13 and 10 at the end of each line; the largest is then over what is read. */
+static request saved[CIRCUITS];
+enum { SAVED = CIRCUITS - 1 };
+
+static void save_at_the_office(const request *plain, request *office)
+{
+    *office = *plain;
+    office->text_bytes = 0;
+    for (size_t i = 0; i < plain->text_bytes; i++) {
+        if (plain->text[i] == '\n')
+            office->text[office->text_bytes++] = '\r';
+        office->text[office->text_bytes++] = plain->text[i];
+    }
+}
 static answer runs[CIRCUITS];
 
 /* What a call goes over, by which its growth can be judged. */
@@ -514,6 +533,10 @@ static void check_all(void)
         expect(&COVERING, &requests[i], CHUDRAVIK_ACCEPTED);
         print_circuit(i);
     }
+    for (size_t i = 0; i < SAVED; i++) {
+        save_at_the_office(&requests[i], &saved[i]);
+        expect(&READING, &saved[i], CHUDRAVIK_ACCEPTED);
+    }
     check_texts(&requests[0]);
     check_circuits(&requests[0]);
     check_lengths(&requests[0]);
@@ -522,11 +545,12 @@ static void check_all(void)
     printf("equal answers and bytes from both sides\n\n");
 }
 
-static void report(const pair *p, double (*work)(size_t), const char *of, size_t rounds)
+static void report(const pair *p, const request *given, size_t count, double (*work)(size_t), const char *of,
+                   size_t rounds)
 {
     times before = {0, 0};
-    for (size_t i = 0; i < CIRCUITS; i++) {
-        times t = measure(p, &requests[i], rounds);
+    for (size_t i = 0; i < count; i++) {
+        times t = measure(p, &given[i], rounds);
         printf("%-6s %-8s %12.1f %12.1f %7.3f", p->name, PLANS[i].name, t.library, t.plain, t.library / t.plain);
         if (i > 0) {
             printf("   x%-8.1f x%-8.1f x%.1f %s", t.library / before.library, t.plain / before.plain,
@@ -558,10 +582,11 @@ int main(int argc, char **argv)
     check_all();
     printf("best of %zu rounds, in nanoseconds; growth from the circuit above\n", rounds);
     printf("call   circuit       library        plain   ratio   library   plain     of what it goes over\n");
-    report(&READING, bytes_of_text, "bytes of text", rounds);
-    report(&WRITING, bytes_of_text, "bytes of text", rounds);
-    report(&TICKING, words_of_table, "words of table", rounds);
-    report(&RUNNING, words_times_cubes, "words x cubes", rounds);
-    report(&COVERING, words_times_sent, "words x 512 cubes", rounds);
+    report(&READING, requests, CIRCUITS, bytes_of_text, "bytes of text", rounds);
+    report(&READING_OFFICE, saved, SAVED, bytes_of_text, "bytes of text", rounds);
+    report(&WRITING, requests, CIRCUITS, bytes_of_text, "bytes of text", rounds);
+    report(&TICKING, requests, CIRCUITS, words_of_table, "words of table", rounds);
+    report(&RUNNING, requests, CIRCUITS, words_times_cubes, "words x cubes", rounds);
+    report(&COVERING, requests, CIRCUITS, words_times_sent, "words x 512 cubes", rounds);
     return 0;
 }

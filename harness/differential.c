@@ -839,10 +839,27 @@ static void damage_byte(text *t)
     }
 }
 
+/* The ending of one line made the other one, or cut in two. */
+static void turn_ending(text *t)
+{
+    size_t behind = line_behind(t, some_place(t));
+    if (behind == 0 || t->byte[behind - 1] != '\n')
+        return;
+    bool office = behind > 1 && t->byte[behind - 2] == '\r';
+    if (chance(10))
+        splice(t, behind - 1, 1, "\r", 1);
+    else if (office)
+        splice(t, behind - 2, 1, "", 0);
+    else
+        splice(t, behind - 1, 0, "\r", 1);
+}
+
 static void damage(text *t, const circuit *c)
 {
     size_t roll = t->count == 0 ? 99 : below(100);
-    if (roll < 28)
+    if (roll < 10)
+        turn_ending(t);
+    else if (roll < 28)
         damage_byte(t);
     else if (roll < 56)
         number_to_edge(t, c);
@@ -857,6 +874,19 @@ static void damage(text *t, const circuit *c)
 }
 
 /* ---- texts: made ---- */
+
+/* Each byte 10 as the bytes 13 and 10, as far as there is room. */
+static void save_at_the_office(text *t)
+{
+    static text plain;
+    plain = *t;
+    t->count = 0;
+    for (size_t i = 0; i < plain.count && t->count + 2 <= LONGEST_TEXT; i++) {
+        if (plain.byte[i] == '\n')
+            append(t, "\r", 1);
+        append(t, &plain.byte[i], 1);
+    }
+}
 
 static void append_comment(text *t, size_t count)
 {
@@ -909,6 +939,8 @@ static void make_text(text *t, circuit *c)
         append_tail(t);
     if (chance(3))
         lengthen(t);
+    if (chance(30))
+        save_at_the_office(t);
     for (size_t times = chance(50) ? between(1, 3) : 0; times > 0; times--)
         damage(t, c);
 }
@@ -1014,6 +1046,7 @@ enum sight {
     COVER_LONG,
     COVER_NEVER,
     COVER_LEFT_LATER,
+    OFFICE_READ,
     SIGHTS
 };
 
@@ -1037,6 +1070,7 @@ static const char *const sight_names[SIGHTS] = {
     "covers accepted with 50 cubes or more",
     "covers accepted with a lamp that never lights",
     "covers refused with 18 for a later cube than cube 0",
+    "texts read whose lines end in bytes 13 and 10",
 };
 
 static uint64_t seen[SIGHTS];
@@ -1094,6 +1128,7 @@ static void try_read(circuit *c)
     make_call();
     note(READ, hand.library.number, TEN_TABLE);
     see_size(hand.library.number, hand.library.counts);
+    see(OFFICE_READ, hand.library.number == 0 && t.byte[line_behind(&t, 0) - 2] == '\r');
     if (hand.library.number == 0)
         must_write_and_read_alike(hand.library.counts, library_table(&hand));
 }

@@ -1,7 +1,8 @@
 /* Circuits that another tool has written: foreign FILE..
  *
  * Each file must be read; written back, it must be the same text up to its comment; that text must read to the same
- * counts and words; and the report program's run (w = 16, 65,536 bytes) must close or be refused by 15. One line a file
+ * counts and words, and so must the file with bytes 13 and 10 at the end of each line, but not with the ending of one
+ * line alone changed; and the report program's run (w = 16, 65,536 bytes) must close or be refused by 15. One line a file
  * goes to standard output, to be compared with the stored ones. Exits 1 on any failure. */
 #include <stdio.h>
 #include <string.h>
@@ -12,6 +13,7 @@ enum { REPORT_INTERVAL = 16 };
 
 /* One byte more than is read at most, so that a longer file is seen to be longer. */
 static uint8_t text[CHUDRAVIK_MOST_TEXT + 1];
+static uint8_t saved[2 * sizeof text];
 static uint8_t written[CHUDRAVIK_MOST_WRITTEN];
 static uint16_t table[CHUDRAVIK_MOST_TABLE_WORDS];
 static uint16_t table_again[CHUDRAVIK_MOST_TABLE_WORDS];
@@ -83,6 +85,51 @@ static int same_when_read_again(const char *path, chudravik_counts counts, size_
     return 1;
 }
 
+/* The file as an office computer saves it, but for line number `odd`; the bytes of it. */
+static size_t save_at_the_office(size_t text_bytes, int office, size_t odd)
+{
+    size_t bytes = 0, line = 0;
+    for (size_t i = 0; i < text_bytes && bytes + 2 <= sizeof saved; i++) {
+        if (text[i] == '\n' && office == (line++ != odd))
+            saved[bytes++] = '\r';
+        saved[bytes++] = text[i];
+    }
+    return bytes;
+}
+
+static size_t lines_of(size_t bytes)
+{
+    size_t lines = 0;
+    for (size_t i = 0; i < bytes; i++)
+        lines += text[i] == '\n';
+    return lines;
+}
+
+/* 4 for a body line, 9 for the comment's, and where the first line is the odd one the second decides. */
+static uint32_t number_due(size_t odd, size_t body_lines)
+{
+    return (odd == 0 ? 1 : odd) <= body_lines ? CHUDRAVIK_BODY_LINE : CHUDRAVIK_TRAILING;
+}
+
+static int one_ending_throughout(const char *path, chudravik_counts counts, size_t text_bytes)
+{
+    size_t words = CHUDRAVIK_TABLE_WORDS(counts.latches, counts.lamps, counts.gates);
+    size_t body_lines = counts.inputs + counts.latches + counts.lamps + counts.gates;
+    size_t lines = lines_of(bytes_before_comment(text_bytes)) + (bytes_before_comment(text_bytes) < text_bytes);
+    chudravik_read_answer answer = chudravik_read(saved, save_at_the_office(text_bytes, 1, SIZE_MAX), table_again, words);
+    if (answer.number != CHUDRAVIK_ACCEPTED || memcmp(&answer.counts, &counts, sizeof counts) != 0 ||
+        memcmp(table_again, table, words * sizeof *table) != 0)
+        return failed(path, "another circuit with bytes 13 and 10", answer.number);
+    for (int office = 0; office <= 1; office++)
+        for (size_t odd = 0; odd < lines && lines > 1; odd++) {
+            size_t bytes = save_at_the_office(text_bytes, office, odd);
+            answer = chudravik_read(saved, bytes, table_again, words);
+            if (answer.number != number_due(odd, body_lines))
+                return failed(path, "another number with the ending of this line changed", odd);
+        }
+    return 1;
+}
+
 static int print_verdicts(const char *path, size_t lamps)
 {
     static const char *const words[] = {"open", "never", "always"};
@@ -123,7 +170,8 @@ static int examine(const char *path)
     if (answer.number != CHUDRAVIK_ACCEPTED)
         return failed(path, "refused by the reader", answer.number);
     return same_when_written(path, answer.counts, text_bytes, &written_bytes) &&
-           same_when_read_again(path, answer.counts, written_bytes) && report_run(path, answer.counts);
+           same_when_read_again(path, answer.counts, written_bytes) &&
+           one_ending_throughout(path, answer.counts, text_bytes) && report_run(path, answer.counts);
 }
 
 int main(int argc, char **argv)

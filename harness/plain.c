@@ -518,17 +518,31 @@ static bool read_number(const uint8_t **at, const uint8_t *end, size_t *number)
     return true;
 }
 
+/* What ends the lines of a text: byte 10, or bytes 13 and 10. */
+typedef enum { NEWLINE, OFFICE_NEWLINE } ending;
+
+/* How many bytes at a position are the ending, and 0 where there is none. */
+static size_t ending_at(const uint8_t *at, const uint8_t *end, ending lines)
+{
+    if (lines == NEWLINE) {
+        return at < end && at[0] == '\n' ? 1 : 0;
+    }
+    return end - at >= 2 && at[0] == '\r' && at[1] == '\n' ? 2 : 0;
+}
+
 /* A line's numbers, at most `most` of them, and how many there are: 0 for an ill-formed line. *at goes behind it. */
-static size_t read_line(const uint8_t **at, const uint8_t *end, size_t most, size_t *numbers)
+static size_t read_line(const uint8_t **at, const uint8_t *end, ending lines, size_t most, size_t *numbers)
 {
     for (size_t k = 0; k < most; k++) {
         if (!read_number(at, end, &numbers[k]) || *at == end) {
             return 0;
         }
-        uint8_t behind = *(*at)++;
-        if (behind == '\n') {
+        size_t length = ending_at(*at, end, lines);
+        if (length != 0) {
+            *at += length;
             return k + 1;
         }
+        uint8_t behind = *(*at)++;
         if (behind != ' ') {
             return 0;
         }
@@ -537,14 +551,22 @@ static size_t read_line(const uint8_t **at, const uint8_t *end, size_t most, siz
 }
 
 /* "The file opens with the four bytes `aag` and a space, then M I L O A and a newline." */
-static uint32_t read_header(const uint8_t **at, const uint8_t *end, chudravik_counts *counts)
+static uint32_t read_header(const uint8_t **at, const uint8_t *end, ending *lines, chudravik_counts *counts)
 {
-    size_t numbers[5];
+    size_t numbers[5], count;
     if (end - *at < 4 || memcmp(*at, "aag ", 4) != 0) {
         return CHUDRAVIK_FIRST_LINE;
     }
-    *at += 4;
-    if (read_line(at, end, 5, numbers) != 5) {
+    const uint8_t *first = *at + 4;
+    *at = first;
+    *lines = NEWLINE;
+    count = read_line(at, end, *lines, 5, numbers);
+    if (count == 0) { /* "Accept either ending; the first line decides" */
+        *at = first;
+        *lines = OFFICE_NEWLINE;
+        count = read_line(at, end, *lines, 5, numbers);
+    }
+    if (count != 5) {
         return CHUDRAVIK_FIRST_LINE;
     }
     *counts = (chudravik_counts){numbers[1], numbers[2], numbers[3], numbers[4]};
@@ -554,19 +576,19 @@ static uint32_t read_header(const uint8_t **at, const uint8_t *end, chudravik_co
     return CHUDRAVIK_ACCEPTED;
 }
 
-static uint32_t judge_input(const uint8_t **at, const uint8_t *end, size_t own)
+static uint32_t judge_input(const uint8_t **at, const uint8_t *end, ending lines, size_t own)
 {
     size_t numbers[1];
-    if (read_line(at, end, 1, numbers) != 1) {
+    if (read_line(at, end, lines, 1, numbers) != 1) {
         return CHUDRAVIK_BODY_LINE;
     }
     return numbers[0] == own ? CHUDRAVIK_ACCEPTED : CHUDRAVIK_OWN_LITERAL;
 }
 
-static uint32_t judge_latch(const uint8_t **at, const uint8_t *end, size_t own, size_t most)
+static uint32_t judge_latch(const uint8_t **at, const uint8_t *end, ending lines, size_t own, size_t most)
 {
     size_t numbers[3];
-    size_t count = read_line(at, end, 3, numbers);
+    size_t count = read_line(at, end, lines, 3, numbers);
     if (count < 2) {
         return CHUDRAVIK_BODY_LINE;
     }
@@ -579,19 +601,19 @@ static uint32_t judge_latch(const uint8_t **at, const uint8_t *end, size_t own, 
     return count == 3 && numbers[2] > 1 && numbers[2] != own ? CHUDRAVIK_RESET : CHUDRAVIK_ACCEPTED;
 }
 
-static uint32_t judge_lamp(const uint8_t **at, const uint8_t *end, size_t most)
+static uint32_t judge_lamp(const uint8_t **at, const uint8_t *end, ending lines, size_t most)
 {
     size_t numbers[1];
-    if (read_line(at, end, 1, numbers) != 1) {
+    if (read_line(at, end, lines, 1, numbers) != 1) {
         return CHUDRAVIK_BODY_LINE;
     }
     return numbers[0] > most ? CHUDRAVIK_LITERAL_TOO_LARGE : CHUDRAVIK_ACCEPTED;
 }
 
-static uint32_t judge_gate(const uint8_t **at, const uint8_t *end, size_t own, size_t most)
+static uint32_t judge_gate(const uint8_t **at, const uint8_t *end, ending lines, size_t own, size_t most)
 {
     size_t numbers[3];
-    if (read_line(at, end, 3, numbers) != 3) {
+    if (read_line(at, end, lines, 3, numbers) != 3) {
         return CHUDRAVIK_BODY_LINE;
     }
     if (numbers[0] != own) {
@@ -604,53 +626,54 @@ static uint32_t judge_gate(const uint8_t **at, const uint8_t *end, size_t own, s
 }
 
 /* "the end of the text, or a line that is just `c`, after which everything is skipped" */
-static bool ended(const uint8_t *at, const uint8_t *end)
+static bool ended(const uint8_t *at, const uint8_t *end, ending lines)
 {
-    return at == end || (end - at >= 2 && at[0] == 'c' && at[1] == '\n');
+    return at == end || (at[0] == 'c' && ending_at(at + 1, end, lines) != 0);
 }
 
 /* "line by line (4, 5, 6, then 7 or 8), 9" */
-static uint32_t judge_body(const uint8_t *at, const uint8_t *end, const chudravik_counts *counts)
+static uint32_t judge_body(const uint8_t *at, const uint8_t *end, ending lines, const chudravik_counts *counts)
 {
     size_t most = 2 * variables_of(counts) + 1;
     size_t own = 2;
     uint32_t number = CHUDRAVIK_ACCEPTED;
     for (size_t i = 0; i < counts->inputs && number == CHUDRAVIK_ACCEPTED; i++, own += 2) {
-        number = judge_input(&at, end, own);
+        number = judge_input(&at, end, lines, own);
     }
     for (size_t i = 0; i < counts->latches && number == CHUDRAVIK_ACCEPTED; i++, own += 2) {
-        number = judge_latch(&at, end, own, most);
+        number = judge_latch(&at, end, lines, own, most);
     }
     for (size_t i = 0; i < counts->lamps && number == CHUDRAVIK_ACCEPTED; i++) {
-        number = judge_lamp(&at, end, most);
+        number = judge_lamp(&at, end, lines, most);
     }
     for (size_t i = 0; i < counts->gates && number == CHUDRAVIK_ACCEPTED; i++, own += 2) {
-        number = judge_gate(&at, end, own, most);
+        number = judge_gate(&at, end, lines, own, most);
     }
     if (number != CHUDRAVIK_ACCEPTED) {
         return number;
     }
-    return ended(at, end) ? CHUDRAVIK_ACCEPTED : CHUDRAVIK_TRAILING;
+    return ended(at, end, lines) ? CHUDRAVIK_ACCEPTED : CHUDRAVIK_TRAILING;
 }
 
 /* The words of a body that nothing refuses. */
-static void fill(const uint8_t *at, const uint8_t *end, const chudravik_counts *counts, uint16_t *restrict table)
+static void fill(const uint8_t *at, const uint8_t *end, ending lines, const chudravik_counts *counts,
+                 uint16_t *restrict table)
 {
     size_t numbers[3];
     for (size_t i = 0; i < counts->inputs; i++) {
-        read_line(&at, end, 1, numbers);
+        read_line(&at, end, lines, 1, numbers);
     }
     for (size_t i = 0; i < counts->latches; i++) {
-        size_t count = read_line(&at, end, 3, numbers);
+        size_t count = read_line(&at, end, lines, 3, numbers);
         *table++ = (uint16_t)numbers[1];
         *table++ = count < 3 ? 0 : numbers[2] > 1 ? CHUDRAVIK_NO_START : (uint16_t)numbers[2];
     }
     for (size_t i = 0; i < counts->lamps; i++) {
-        read_line(&at, end, 1, numbers);
+        read_line(&at, end, lines, 1, numbers);
         *table++ = (uint16_t)numbers[0];
     }
     for (size_t i = 0; i < counts->gates; i++) {
-        read_line(&at, end, 3, numbers);
+        read_line(&at, end, lines, 3, numbers);
         *table++ = (uint16_t)numbers[1];
         *table++ = (uint16_t)numbers[2];
     }
@@ -669,9 +692,10 @@ chudravik_read_answer plain_read(const uint8_t *text, size_t text_bytes, uint16_
     const uint8_t *body = text;
     const uint8_t *end = text + text_bytes;
     chudravik_counts counts;
-    uint32_t number = read_header(&body, end, &counts);
+    ending lines;
+    uint32_t number = read_header(&body, end, &lines, &counts);
     if (number == CHUDRAVIK_ACCEPTED) {
-        number = judge_body(body, end, &counts);
+        number = judge_body(body, end, lines, &counts);
     }
     if (number != CHUDRAVIK_ACCEPTED) {
         return read_refused(number);
@@ -679,7 +703,7 @@ chudravik_read_answer plain_read(const uint8_t *text, size_t text_bytes, uint16_
     if (table_words < table_length(&counts)) {
         return read_refused(CHUDRAVIK_TOO_SHORT);
     }
-    fill(body, end, &counts, table);
+    fill(body, end, lines, &counts, table);
     return (chudravik_read_answer){CHUDRAVIK_ACCEPTED, counts};
 }
 

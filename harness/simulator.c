@@ -180,8 +180,9 @@ static uint32_t take_board(circuit *c, chudravik_counts counts, const uint16_t *
 enum { NUMBERS_KEPT = 5 };
 
 typedef struct {
-    bool formed;  /* numbers with one space between, and byte 10 behind */
-    bool comment; /* `c` and byte 10 */
+    bool formed;  /* numbers with one space between, and an ending behind */
+    bool comment; /* `c` and an ending */
+    bool office;  /* request 6: the ending is bytes 13 and 10, not byte 10 alone */
     size_t count; /* of numbers; only the first few are kept, no line has more */
     size_t number[NUMBERS_KEPT];
 } line;
@@ -241,8 +242,10 @@ static lines split(const uint8_t *bytes, size_t length)
     lines all = {0};
     while (length > 0) {
         size_t here = until(bytes, length, '\n');
-        bool ended = here < length;
-        add_line(&all, tokenise(bytes, here, ended));
+        bool ended = here < length, office = ended && here > 0 && bytes[here - 1] == '\r';
+        line one = tokenise(bytes, here - office, ended);
+        one.office = office;
+        add_line(&all, one);
         bytes += here + ended;
         length -= here + ended;
     }
@@ -255,13 +258,19 @@ typedef struct {
     size_t taken;
 } reading;
 
+/* "the first line decides, and all lines up to the last body line and the `c` line must agree" */
+static bool ends_as_the_first(const reading *r, const line *one)
+{
+    return one->office == r->all.line[0].office;
+}
+
 /* The line due, if it is there and has so many numbers. */
 static const line *due_line(reading *r, size_t least, size_t most)
 {
     if (r->taken == r->all.count)
         return NULL;
     const line *due = &r->all.line[r->taken++];
-    return due->formed && due->count >= least && due->count <= most ? due : NULL;
+    return due->formed && ends_as_the_first(r, due) && due->count >= least && due->count <= most ? due : NULL;
 }
 
 static uint32_t read_first_line(reading *r, circuit *c)
@@ -332,7 +341,10 @@ static uint32_t read_body(reading *r, circuit *c)
 
 static uint32_t read_end(const reading *r)
 {
-    return r->taken == r->all.count || r->all.line[r->taken].comment ? 0 : 9;
+    if (r->taken == r->all.count)
+        return 0;
+    const line *behind = &r->all.line[r->taken];
+    return behind->comment && ends_as_the_first(r, behind) ? 0 : 9;
 }
 
 static uint32_t read_lines(reading *r, circuit *c)

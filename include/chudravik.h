@@ -171,7 +171,8 @@ CHUDRAVIK_IS(place_of_cube, offsetof(chudravik_cover_answer, cube), 8);
 
 #undef CHUDRAVIK_IS
 
-/* Reads a circuit from its text into the front of the table.
+/* Reads a circuit from its text into the front of the table. Its lines end in byte 10, or all of them in bytes 13 and 10:
+ * the first line decides; another ending is 4 in a line of the body and 9 at the line `c`.
  * Refusals: 1, 2, 3, then line by line (4, 5, 6, then 7 or 8), 9, and 10 where the table is shorter than
  * CHUDRAVIK_TABLE_WORDS of the circuit. Words beyond that many stay as they were. */
 chudravik_read_answer chudravik_read(const uint8_t *text, size_t text_bytes, uint16_t *table, size_t table_words);

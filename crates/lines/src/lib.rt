@@ -106,7 +106,7 @@ pub fn ending_at(text: &[u8], at: usize, ending: Ending) -> usize
         }
         Ending::OfficeNewline => {
             if text[at] != 13 {
-                return 0;
+                return 0; // also for byte 10 alone
             }
             if at + 1 == text.len() {
                 return 0; // a lone 13
@@ -201,7 +201,7 @@ pub fn reset_word(found: ReadLine) -> usize
         return reset;
     }
     if reset == entry(found, 0) {
-        return 2;
+        return 2; // no start value
     }
     3
 }

@@ -19,7 +19,7 @@ use Rattle.text.specs.Text.{Content, readText}
 use Rattle.putting.specs.PutInCode.{Put}
 use Rattle.text.specs.Calls.{readInto, zeros, Reading}
 use Rattle.text.proofs.Answers.{read-stops, read-fits}
-use Rattle.text.proofs.Grammar.{describes}
+use Rattle.text.proofs.Endings.{describes}
 use Rattle.text.proofs.Tables.{taken}
 use Rattle.text.proofs.RoundTrip.{Carries, read-carries}
 use Rattle.putting.proofs.Putting.{put-over}
