@@ -450,7 +450,7 @@ static size_t first_uncovered(const chudravik_counts *counts, const uint16_t *ta
                               uint8_t *verdict)
 {
     size_t length = record_length(counts->latches);
-    uint8_t values[VARIABLES] = {CHUDRAVIK_LOW};
+    uint8_t values[VALUE_BYTES] = {CHUDRAVIK_LOW << 6};
     uint8_t next[MOST_RECORD];
     uint8_t lamps[MOST_LAMP_RECORD];
     for (size_t k = 0; k < n; k++) {
