@@ -1,9 +1,9 @@
 -- Laws of a line's ending, and of a number in a line, found at a position of a text: what stands behind the number decides. Assumes nothing.
-use mathlib.Core.Path.{_≡_, refl, sym, _∙_}
+use mathlib.Core.Path.{_≡_, refl, sym, _∙_, ap}
 use mathlib.Core.List.{List, [], _∷_}
 use Prim.Native.Nat.{ℕ, zero, suc, _+_, _-_, _≤_, _<_}
 use native.Mathlib.Omega.{arith}
-use borrow.Author.Tests.{ne-eqb}
+use borrow.Author.Tests.{ne-eqb, ltb-true, eqb-true, eqb-false, ltb-false}
 use lib.ListN.{length, getD}
 use Rattle.text.specs.Part.{Part, got, ill}
 use Rattle.text.specs.Decimal.{readNumber}
@@ -13,9 +13,11 @@ use Rattle.lines.specs.declared.ReadNumber.the-variants.{Value, NoNumber
 use Rattle.lines.specs.declared.Ending.{Ending}
 use Rattle.lines.specs.declared.Ending.the-variants.{Newline, OfficeNewline}
 use Rattle.lines.specs.declared.InLine.the-variants.{Last, More, NotInLine}
-use Rattle.lines.specs.LinesInCode.{from, numberPart, numberEnd, NumberFound, linePart, lineEnd, endingBytes, stripped, EndingAt, FoundInLine}
+use Rattle.lines.specs.LinesInCode.{from, numberPart, numberEnd, NumberFound, linePart, lineEnd, endingBytes, stripped, EndingAt, FoundInLine, firstByte, leadBytes}
 use Rattle.text.proofs.Lines.{strip-front, strip-none, strip-other, strip-same, number-ill, number-last, number-more, number-other}
 use Rattle.lines.proofs.Numbers.{from-end, from-byte}
+use Rattle.three.proofs.Lists.{by-test}
+use lib.Dec.{ltb, eqb}
 
 -- ---- an ending
 
@@ -23,44 +25,44 @@ strip-byte : (b : ℕ) (bs : List ℕ) (d : ℕ) (t : List ℕ) → (d ≡ b →
 strip-byte b bs d t h = strip-other b d bs t (ne-eqb b d (λ e. h (sym e)))
 
 module _ (text : List ℕ) (at : ℕ) where
-  pub ending-end : (e : Ending) → at ≡ length text → EndingAt (endingBytes e) text at 0
+  module _ (h : at < length text) where
+    pub ending-other : (e : Ending) {first : ℕ} → first ≡ firstByte e → (getD text at 0 ≡ first → ⊥) → EndingAt (endingBytes e) text at 0
+    unfolding stripped
+    ending-other Newline f b = record { reads = rw (from-byte text at h) (strip-byte 10 [] _ _ (λ q. b (q ∙ sym f))); within = omega arith }
+    ending-other OfficeNewline f b = record { reads = rw (from-byte text at h) (strip-byte 13 newline _ _ (λ q. b (q ∙ sym f))); within = omega arith }
+
+    past-13 : getD text at 0 ≡ 13 → strip officeNewline (from text at) ≡ strip newline (from text (at + 1))
+    past-13 b = rw (from-byte text at h, b) (strip-same 13 13 newline _ refl)
+
+  ending-end : (b : ℕ) (bs : List ℕ) → length text ≤ at → strip (b ∷ bs) (from text at) ≡ ill
+  ending-end b bs h = rw (from-end text at h) (strip-none b bs)
+
+  pub ending-short : (e : Ending) {lead : ℕ} → lead ≡ leadBytes e → at ≤ length text → length text ≤ at + lead → EndingAt (endingBytes e) text at 0
   unfolding stripped
-  ending-end Newline h = record { reads = rw (from-end text at (omega arith)) (strip-none 10 []); within = omega arith }
-  ending-end OfficeNewline h = record { reads = rw (from-end text at (omega arith)) (strip-none 13 newline); within = omega arith }
+  ending-short Newline l w h = record { reads = ending-end 10 [] (omega arith); within = omega arith }
+  ending-short OfficeNewline l w h = by-test (ltb at (length text))
+      (λ t. let g = ltb-true at (length text) t in by-test (eqb (getD text at 0) 13)
+      (λ q. record { reads = past-13 g (eqb-true _ 13 q) ∙ rw (from-end text (at + 1) (omega arith)) (strip-none 10 []); within = omega arith })
+      (λ q. ending-other g OfficeNewline refl (eqb-false _ 13 q)))
+      (λ t. record { reads = ending-end 13 newline (ltb-false at (length text) t); within = omega arith })
 
-  module _ (h : at < length text) {e : Ending} where
-    -- byte 10
-    pub newline-here : e ≡ Newline → getD text at 0 ≡ 10 → EndingAt (endingBytes e) text at 1
+  module _ {first lead : ℕ} (w : at + lead < length text) (b : getD text at 0 ≡ first) where
+    pub ending-cut : (e : Ending) → first ≡ firstByte e → lead ≡ leadBytes e → (getD text (at + lead) 0 ≡ 10 → ⊥) → EndingAt (endingBytes e) text at 0
     unfolding stripped
-    newline-here q b = rw q (record { reads = rw (from-byte text at h, b) (strip-front newline _); within = omega arith })
+    ending-cut Newline f l d =
+        let p : at + lead ≡ at = omega arith in
+        absurd (d (ap (λ (i : ℕ). getD text i 0) p ∙ b ∙ f))
+    ending-cut OfficeNewline f l d =
+        let p : at + lead ≡ at + 1 = omega arith in
+        record { reads = past-13 (omega arith) (b ∙ f) ∙ rw (from-byte text (at + 1) (omega arith)) (strip-byte 10 [] _ _ (λ q. d (ap (λ (i : ℕ). getD text i 0) p ∙ q))); within = omega arith }
 
-    pub newline-other : e ≡ Newline → (getD text at 0 ≡ 10 → ⊥) → EndingAt (endingBytes e) text at 0
+    pub ending-here : (e : Ending) → first ≡ firstByte e → lead ≡ leadBytes e → getD text (at + lead) 0 ≡ 10 → EndingAt (endingBytes e) text at (lead + 1)
     unfolding stripped
-    newline-other q b = rw q (record { reads = rw (from-byte text at h) (strip-byte 10 [] _ _ b); within = omega arith })
-
-    -- bytes 13 and 10
-    pub office-other : e ≡ OfficeNewline → (getD text at 0 ≡ 13 → ⊥) → EndingAt (endingBytes e) text at 0
-    unfolding stripped
-    office-other q b = rw q (record { reads = rw (from-byte text at h) (strip-byte 13 newline _ _ b); within = omega arith })
-
-    module _ (q : e ≡ OfficeNewline) (b : getD text at 0 ≡ 13) where
-      past-13 : strip officeNewline (from text at) ≡ strip newline (from text (at + 1))
-      past-13 = rw (from-byte text at h, b) (strip-same 13 13 newline _ refl)
-
-      pub office-lone : at + 1 ≡ length text → EndingAt (endingBytes e) text at 0
-      unfolding stripped
-      office-lone l = rw q (record { reads = past-13 ∙ rw (from-end text (at + 1) (omega arith)) (strip-none 10 []); within = omega arith })
-
-      module _ (l : at + 1 < length text) where
-        pub office-here : getD text (at + 1) 0 ≡ 10 → EndingAt (endingBytes e) text at 2
-        unfolding stripped
-        office-here d =
-            let p : at + 1 + 1 ≡ at + 2 = omega arith in
-            rw q (record { reads = past-13 ∙ rw (from-byte text (at + 1) l, d, p) (strip-front newline _); within = omega arith })
-
-        pub office-cut : (getD text (at + 1) 0 ≡ 10 → ⊥) → EndingAt (endingBytes e) text at 0
-        unfolding stripped
-        office-cut d = rw q (record { reads = past-13 ∙ rw (from-byte text (at + 1) l) (strip-byte 10 [] _ _ d); within = omega arith })
+    ending-here Newline f l d = rw l (record { reads = rw (from-byte text at (omega arith), b ∙ f) (strip-front newline _); within = omega arith })
+    ending-here OfficeNewline f l d =
+        let p : at + lead ≡ at + 1 = omega arith in
+        let q : at + 1 + 1 ≡ at + 2 = omega arith in
+        rw l (record { reads = past-13 (omega arith) (b ∙ f) ∙ rw (from-byte text (at + 1) (omega arith), ap (λ (i : ℕ). getD text i 0) (sym p) ∙ d, q) (strip-front newline _); within = omega arith })
 
 -- what it says of its length
 pub ending-none : {ending text : List ℕ} {at n : ℕ} → EndingAt ending text at n → n ≡ 0 → strip ending (from text at) ≡ ill

@@ -44,6 +44,15 @@ abbrev pub endingBytes : Ending → List ℕ
 endingBytes Newline = newline
 endingBytes OfficeNewline = officeNewline
 
+-- its first byte, and how many bytes stand in front of byte 10
+abbrev pub firstByte : Ending → ℕ
+firstByte Newline = 10
+firstByte OfficeNewline = 13
+
+abbrev pub leadBytes : Ending → ℕ
+leadBytes Newline = 0
+leadBytes OfficeNewline = 1
+
 -- the text behind an ending of so many bytes; there is none of no byte
 unfoldable pub stripped : ℕ → List ℕ → Part (Unit {0})
 stripped zero r = ill

@@ -6,7 +6,7 @@ ghost use lib.ListN.{length, getD};
 ghost use Rattle.text.specs.Decimal.{mayGrow, readNumber};
 ghost use Rattle.text.specs.Text.{resetWord};
 ghost use Rattle.text.specs.Line.{splitLine};
-ghost use Rattle.lines.specs.LinesInCode.{mostNumbers, from, leading, NumberFound, endingBytes, EndingAt, FoundInLine, numbersOf, LineFound};
+ghost use Rattle.lines.specs.LinesInCode.{mostNumbers, from, leading, NumberFound, endingBytes, firstByte, leadBytes, EndingAt, FoundInLine, numbersOf, LineFound};
 ghost use Rattle.text.specs.Part.{ill};
 
 // A number at a position, and the position behind it.
@@ -89,34 +89,51 @@ fn number(text: &[u8], at: usize) -> ReadNumber
     }
 }
 
-// The length of a line's ending at a position, and 0 where there is none: byte 10, or bytes 13 and 10.
+// The first byte of an ending.
+fn first_byte(ending: Ending) -> u8
+    ensures { λ r. ⌜ r ≡ firstByte ending ⌝ }
+{
+    match ending {
+        Ending::Newline => {
+            return 10;
+        }
+        Ending::OfficeNewline => {
+            return 13;
+        }
+    }
+}
+
+// How many bytes stand in front of its byte 10.
+fn lead(ending: Ending) -> usize
+    ensures { λ r. ⌜ r ≡ leadBytes ending ⌝ }
+{
+    match ending {
+        Ending::Newline => {
+            return 0;
+        }
+        Ending::OfficeNewline => {
+            return 1;
+        }
+    }
+}
+
+// The length of a line's ending at a position, and 0 where there is none. Both endings take the same way, so that a line
+// of either is read by one loop.
 pub fn ending_at(text: &[u8], at: usize, ending: Ending) -> usize
     requires { ⌜ at ≤ length (now text) ⌝ }
     ensures { λ r. ⌜ EndingAt (endingBytes ending) (now (text .entry)) at r ⌝ }
 {
-    if at == text.len() {
+    let before = lead(ending);
+    if text.len() - at <= before {
         return 0;
     }
-    match ending {
-        Ending::Newline => {
-            if text[at] == 10 {
-                return 1;
-            }
-            return 0;
-        }
-        Ending::OfficeNewline => {
-            if text[at] != 13 {
-                return 0; // also for byte 10 alone
-            }
-            if at + 1 == text.len() {
-                return 0; // a lone 13
-            }
-            if text[at + 1] == 10 {
-                return 2;
-            }
-            return 0;
-        }
+    if text[at] != first_byte(ending) {
+        return 0; // also for byte 10 alone
     }
+    if text[at + before] != 10 {
+        return 0; // a lone 13
+    }
+    before + 1
 }
 
 // One space between.
