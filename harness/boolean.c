@@ -328,6 +328,11 @@ static void send_run(struct sent *sent, const struct run *run)
         fail("cover", "the cubes of a closed run are refused, or judged otherwise", 0);
 }
 
+static unsigned start_field(uint16_t reset)
+{
+    return reset == CHUDRAVIK_NO_START ? CHUDRAVIK_UNKNOWN : reset == 1 ? CHUDRAVIK_HIGH : CHUDRAVIK_LOW;
+}
+
 /* What a state and all that follow have in common, with all switches unknown. */
 static void send_merge(struct sent *sent)
 {
@@ -337,7 +342,7 @@ static void send_merge(struct sent *sent)
     bool changed = true;
     memset(sent->cubes, 0, record);
     for (size_t i = 0; i < circuit.counts.latches; i++)
-        sent->cubes[i / 4] |= (uint8_t)((circuit.table[2 * i + 1] ? CHUDRAVIK_HIGH : CHUDRAVIK_LOW) << (6 - 2 * (i % 4)));
+        sent->cubes[i / 4] |= (uint8_t)(start_field(circuit.table[2 * i + 1]) << (6 - 2 * (i % 4)));
     while (changed) {
         uint32_t number = chudravik_tick(circuit.counts, circuit.table, circuit.words, sent->cubes, record, unknown,
                                          sizeof unknown, next, sizeof next, lit, sizeof lit);

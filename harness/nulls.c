@@ -1,7 +1,7 @@
 /* Null pointers with length 0: each call on several circuits, with every set of its buffers taken away and handed as
  * null. The simulator is handed an empty buffer in their place (twice.h), and both must agree. Fails too if a call was
- * never accepted with a null pointer: the circuit without counts needs no table. A run needs a lamp, so it needs each of
- * its buffers.
+ * never accepted with a null pointer: the circuit without counts needs no table. A run and a cover need a lamp, so they need
+ * each of their buffers.
  */
 #include "twice.h"
 
@@ -127,7 +127,7 @@ static void try_sets(twice *t, enum call call)
             accepted += t->library.number == CHUDRAVIK_ACCEPTED;
         }
     printf("%s: %zu calls with null pointers, %zu accepted\n", call_names[call], made, accepted);
-    if (accepted == 0 && call != RUN) {
+    if (accepted == 0 && call != RUN && call != COVER) {
         fprintf(stderr, "nulls: %s was never accepted\n", call_names[call]);
         exit(1);
     }
