@@ -37,7 +37,7 @@ module _ (g : SentGiven) where
   unfoldable pub verdictTests : List Test
   verdictTests = leb (bytesFor (g .counts .lamps)) (length (g .verdict)) or 10 ∷ []
 
-  -- 3, 10 for the table, 11, 10 for the cubes, 14, 17, 18, 10 for the verdict
+  -- 3, 16, 10 for the table, 11, 10 for the cubes, 14, 17, 18, 10 for the verdict
   unfoldable pub sentTests : List Test
   sentTests = boardTests (g .counts) (g .table) ++ (cubeTests (g .counts) (g .cubes) (g .n) ++ (coverTests circuitIn cubesIn (g .n) ++ verdictTests))
 
