@@ -14,8 +14,8 @@ use Rattle.text.specs.Part.{got}
 use Rattle.text.specs.Line.{strip, readLine}
 use Rattle.text.specs.Outcome.{Outcome, accepted, refused, onward}
 use Rattle.text.specs.OutcomeInCode.{after}
-use Rattle.text.specs.Text.{fits, lineTests, ends, Lines, readLines, words}
-use Rattle.text.proofs.Steps.{inFront, line-ill, line-stops, line-fits}
+use Rattle.text.specs.Text.{fits, lineTests, ends, Lines, inFront, readLines}
+use Rattle.text.proofs.Steps.{line-ill, line-stops, line-fits}
 use Rattle.lines.specs.declared.ReadLine.{ReadLine}
 use Rattle.reader.specs.declared.Judged.{Judged}
 use Rattle.lines.specs.LinesInCode.{from, EndingAt, numbersOf, LineFound}
@@ -30,10 +30,10 @@ use Rattle.lines.proofs.Finding.{line-got, line-ill-formed}
 
 -- ---- the text that lines leave
 
-pub left-front : (ws : List ℕ) (o : Outcome Lines) → left (onward (inFront ws) o) ≡ left o
+pub left-front : (k : Kind) (ns : List ℕ) (o : Outcome Lines) → left (onward (inFront k ns) o) ≡ left o
 unfolding left onward
-left-front ws (accepted l) = refl
-left-front ws (refused n) = refl
+left-front k ns (accepted l) = refl
+left-front k ns (refused n) = refl
 
 pub left-refused : {o : Outcome Lines} {n : ℕ} → o ≡ refused n → left o ≡ refused n
 unfolding left onward
@@ -75,7 +75,7 @@ line-judged ending text at most k l n f e = record {
   where
     on : (ks : List Kind) (n : ℕ) → n ≡ refusal (lineTests most k (numbersOf l)) → readLine ending (from text at) ≡ got (numbersOf l) (from text (l .next))
         → left (readLines ending (lineTests most) (k ∷ ks) (from text at)) ≡ after n (left (readLines ending (lineTests most) ks (from text (l .next))))
-    on ks zero h g = ap left (line-fits ending (lineTests most) k ks _ g h) ∙ left-front (words k (numbersOf l)) _
+    on ks zero h g = ap left (line-fits ending (lineTests most) k ks _ g h) ∙ left-front k (numbersOf l) _
     on ks (suc n) h g = left-refused (line-stops ending (lineTests most) k ks _ g h)
 
 -- ---- the first pass: the end of the text

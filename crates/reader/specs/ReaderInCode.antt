@@ -44,7 +44,7 @@ kindsThen c ks =
 
 -- what lines of a text are read as, and their words
 unfoldable pub linesOf : List ℕ → Counts → List Kind → List ℕ → Lines
-linesOf ending c ks t = leaves (λ l. l) (record { words = []; rest = [] }) (readLines ending (lineTests (top c)) ks t)
+linesOf ending c ks t = leaves (λ l. l) (record { owns = []; words = []; rest = [] }) (readLines ending (lineTests (top c)) ks t)
 
 abbrev pub bodyWords : List ℕ → Counts → List Kind → List ℕ → List ℕ
 bodyWords ending c ks t = linesOf ending c ks t .words

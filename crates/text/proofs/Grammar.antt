@@ -14,7 +14,7 @@ use Rattle.circuit.specs.Table.{variables, top, tableLength, Kind, kinds, width
 use Rattle.text.specs.Part.{got, ill}
 use Rattle.text.specs.Line.{endedLine, strip}
 use Rattle.text.specs.Outcome.{accepted, onward}
-use Rattle.text.specs.Text.{magic, headNumbers, words, lineTests, ends, Lines, readLines, header, countsOf, headerTests, Content, readEnded}
+use Rattle.text.specs.Text.{magic, headNumbers, words, shownOwn, lineTests, ends, Lines, readLines, header, countsOf, headerTests, Content, readEnded}
 use Rattle.text.proofs.Parts.{by-part}
 use Rattle.circuit.proofs.Refusals.{passed-append, passed-refusal}
 use Rattle.text.proofs.Outcomes.{append-passed, accepted-same}
@@ -48,14 +48,17 @@ pub record Describes (ending t : List ℕ) (c : Content) : Type 0 where
 -- ---- what describes a circuit is read
 
 says-read : {ending : List ℕ} → Proper ending → (most : ℕ) {ks : List Kind} {r ws t : List ℕ}
-    → most < 100000 → Owned most ks → Says ending r ks ws t → Passed (tableTests most ks ws) → readLines ending (lineTests most) ks t ≡ accepted (record { words = ws; rest = r })
+    → most < 100000 → Owned most ks → Says ending r ks ws t → Passed (tableTests most ks ws) → (os : List ℕ) × (readLines ending (lineTests most) ks t ≡ accepted (record { owns = os; words = ws; rest = r }))
 unfolding readLines onward tableTests
-says-read e most m o stop p = refl
+says-read e most m o stop p = ([], refl)
 says-read {ending} e most m o (line {k = k} {ks = ks} {all = all} {ws = ws} {ns = ns} {t = t} s r) p =
     let q = passed-append (rowTests most k all) (tableTests most ks (drop (width k) all)) p in
     let v : Seen most k all ws ns = seen m (o .0) s (q .0) in
-    line-fits ending (lineTests most) k ks _ (line-split ending e 3 ns t (v .shape .0) (v .shape .1) (v .shape .2)) (passed-refusal _ (v .passes))
-    ∙ rw (says-read e most m (o .1) r (rw (← (v .gives), drop-words) at (q .1)), v .gives)
+    let others = says-read e most m (o .1) r (rw (← (v .gives), drop-words) at (q .1)) in (
+      shownOwn k ns ++ others .0,
+      line-fits ending (lineTests most) k ks _ (line-split ending e 3 ns t (v .shape .0) (v .shape .1) (v .shape .2)) (passed-refusal _ (v .passes))
+          ∙ rw (others .1, v .gives),
+    )
 
 closing-ends : (ending : List ℕ) {r : List ℕ} → Closing ending r → ends ending r ≡ true
 unfolding ends
@@ -80,7 +83,7 @@ described-read {ending} {t} {c} proper d =
     let k : Taken n (c .words) = taken n (c .words) (d .legal) in
     let b = k .bounded in
     let f = head-fits n b in
-    header-fits ending t (d .short) (described-header proper d) (passed-refusal _ (f .1)) ∙ rw (end-fits ending (says-read proper (top n) (omega arith) (owned-kinds n) (d .says) (k .rules)) (closing-ends ending (d .closes)))
+    header-fits ending t (d .short) (described-header proper d) (passed-refusal _ (f .1)) ∙ rw (end-fits ending (says-read proper (top n) (omega arith) (owned-kinds n) (d .says) (k .rules) .1) (closing-ends ending (d .closes)))
 
 -- ---- what is read describes a circuit
 

@@ -14,15 +14,11 @@ use Rattle.circuit.proofs.Refusals.{Numbered, stops, past, none}
 use Rattle.text.specs.Part.{got, ill}
 use Rattle.text.specs.Line.{readLine}
 use Rattle.text.specs.Outcome.{Outcome, accepted, refused, tested, further, onward}
-use Rattle.text.specs.Text.{words, lineTests, ends, Lines, readLines, header, countsOf, headerTests, Content, readEnded, endingOf, readText}
+use Rattle.text.specs.Text.{inFront, lineTests, ends, Lines, readLines, header, countsOf, headerTests, Content, readEnded, endingOf, readText}
 use Rattle.text.proofs.Parts.{by-part}
 use Rattle.text.proofs.Outcomes.{tested-stops, tested-past, refused-accepted, tested-accepted, further-accepted, onward-accepted}
 
 -- ---- 4 to 8, line by line
-
--- the words of a line in front of those of the lines after it
-abbrev pub inFront : List ℕ → Lines → Lines
-inFront ws l = record { words = ws ++ l .words; rest = l .rest }
 
 module _ (ending : List ℕ) (tests : Kind → List ℕ → List Test) (k : Kind) (ks : List Kind) (t : List ℕ) where
   pub line-ill : readLine ending t ≡ ill → readLines ending tests (k ∷ ks) t ≡ refused 4
@@ -34,7 +30,7 @@ module _ (ending : List ℕ) (tests : Kind → List ℕ → List Test) (k : Kind
     unfolding readLines
     line-stops h = rw (readLines, e) (tested-stops (tests k ns) _ h)
 
-    pub line-fits : 0 ≡ refusal (tests k ns) → readLines ending tests (k ∷ ks) t ≡ onward (inFront (words k ns)) (readLines ending tests ks rest)
+    pub line-fits : 0 ≡ refusal (tests k ns) → readLines ending tests (k ∷ ks) t ≡ onward (inFront k ns) (readLines ending tests ks rest)
     unfolding readLines
     line-fits h = rw (readLines, e) (tested-past (tests k ns) _ h)
 
@@ -46,14 +42,14 @@ module _ (ending : List ℕ) (tests : Kind → List ℕ → List Test) (k : Kind
     pub split : readLine ending t ≡ got numbers behind
     pub passes : Passed (tests k numbers)
     pub on : readLines ending tests ks behind ≡ accepted others
-    pub gives : inFront (words k numbers) others ≡ l
+    pub gives : inFront k numbers others ≡ l
 
   pub line-accepted : {l : Lines} → ((ns : List ℕ) → Numbered (tests k ns)) → readLines ending tests (k ∷ ks) t ≡ accepted l → LineRead l
   unfolding readLines
   line-accepted n a = by-part (readLine ending t)
       (λ ns rest e.
       let p = tested-accepted (tests k ns) _ (n ns) (rw (readLines, e) at a) in
-      let q = onward-accepted (inFront (words k ns)) (readLines ending tests ks rest) (p .1) in
+      let q = onward-accepted (inFront k ns) (readLines ending tests ks rest) (p .1) in
       record { numbers = ns; behind = rest; others = q .0; split = e; passes = p .0; on = q .1; gives = q .2 })
       (λ e. absurd (refused-accepted (rw (readLines, e) at a)))
 

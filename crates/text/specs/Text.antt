@@ -64,6 +64,10 @@ words (latch own) ns = getD ns 1 0 ∷ resetWord (getD ns 0 0) (getD ns 2 0) ∷
 words literal ns = getD ns 0 0 ∷ []
 words (gate own) ns = getD ns 1 0 ∷ getD ns 2 0 ∷ []
 
+-- the own literal that a line shows; a line of one literal has none
+unfoldable pub shownOwn : Kind → List ℕ → List ℕ
+shownOwn kind ns = elim kind [ input own ↦ getD ns 0 0 ∷ [] | latch own ↦ getD ns 0 0 ∷ [] | literal ↦ [] | gate own ↦ getD ns 0 0 ∷ [] ]
+
 -- 4, 5, 6, then 7 or 8 for a line's numbers; `most` is the largest literal
 unfoldable pub lineTests : ℕ → Kind → List ℕ → List Test
 lineTests most k ns = fits k (length ns) or 4 ∷ owns k ns or 5 ∷ rowTests most k (words k ns)
@@ -73,18 +77,22 @@ unfoldable pub ends : List ℕ → List ℕ → Bool
 ends ending [] = true
 ends ending (b ∷ t) = elim (strip (99 ∷ ending) (b ∷ t)) [ got u rest ↦ true | ill ↦ false ]
 
--- What lines are read as: their words, and the text behind them
+-- What lines are read as: their own literals, their words, and the text behind them
 pub record Lines : Type 0 where
+  pub owns : List ℕ
   pub words : List ℕ
   pub rest : List ℕ
 
--- a line for each kind, in order, each judged by its tests, its words in front of those of the lines after it; 4 where there is none
+-- a line in front of others
+abbrev pub inFront : Kind → List ℕ → Lines → Lines
+inFront k ns l = record { owns = shownOwn k ns ++ l .owns; words = words k ns ++ l .words; rest = l .rest }
+
+-- a line for each kind, in order, each judged by its tests; 4 where there is none
 unfoldable pub readLines : List ℕ → (Kind → List ℕ → List Test) → List Kind → List ℕ → Outcome Lines
-readLines ending tests [] t = accepted (record { words = []; rest = t })
+readLines ending tests [] t = accepted (record { owns = []; words = []; rest = t })
 readLines ending tests (k ∷ ks) t = elim (readLine ending t) [
   | ill ↦ refused 4
-  | got ns rest ↦
-      tested (tests k ns) (onward (λ l. record { words = words k ns ++ l .words; rest = l .rest }) (readLines ending tests ks rest))
+  | got ns rest ↦ tested (tests k ns) (onward (inFront k ns) (readLines ending tests ks rest))
 ]
 
 -- the numbers of the first line

@@ -1,0 +1,17 @@
+pub mod Searching
+pub mod Pigeons
+pub mod Loops
+pub mod Sorting
+pub mod Proper
+pub mod Naming
+pub mod Fixed
+pub mod Tables
+pub mod Same
+pub mod Refused
+pub mod Reading
+pub mod Dues
+pub mod Plain
+pub mod Rounds
+pub mod Alike
+pub mod Twins
+pub mod Promise

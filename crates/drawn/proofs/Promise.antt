@@ -1,0 +1,118 @@
+-- What is promised of a text in any order: an accepted one is made into a legal table that behaves as the text does, its gates by depth, and
+-- 22 is given exactly where gates loop. Assumes nothing.
+use mathlib.Core.Path.{_≡_, refl, sym, ap, _∙_}
+use mathlib.Core.Bool.{Bool, true}
+use mathlib.Core.Logic.{_↔_}
+use mathlib.Core.List.{List, [], _∷_}
+use Prim.Native.Nat.{ℕ, zero, suc, _<_, _≤_, max}
+use native.Mathlib.Omega.{arith}
+use lib.ListN.{length}
+use Rattle.three.specs.Lists.{every}
+use Rattle.three.proofs.Lists.{by-test}
+use Rattle.text.specs.OutcomeInCode.{after}
+use Rattle.circuit.specs.RulesInCode.{Passed, Legal}
+use Rattle.circuit.specs.Refusal.{Test, _or_, refusal}
+use Rattle.circuit.specs.declared.Counts.{Counts}
+use Rattle.circuit.specs.Circuit.{next, lamps}
+use Rattle.circuit.specs.Table.{circuitOf}
+use Rattle.three.specs.Value.{boolean}
+use Rattle.circuit.proofs.Refusals.{Numbered, stops, past, none, passes, refusal-append, append-past}
+use Rattle.text.specs.Part.{got}
+use Rattle.text.specs.Outcome.{Outcome, accepted, refused, tested, onward}
+use Rattle.text.specs.Text.{ends, Lines, header, Content, readText}
+use Rattle.text.proofs.Outcomes.{refused-accepted, tested-stops}
+use Rattle.drawn.specs.Depth.{Source, gate, depth, deep}
+use Rattle.drawn.specs.Drawing.{Drawing, lines, leftSource, rightSource, gateOrder, once, allDefined, drawingTests, table}
+use Rattle.drawn.specs.Meaning.{Behaves, Follows, Looped}
+use Rattle.drawn.specs.Lines.{anyHeaderTests, bodyOf, drawing, afterTests, readAnyEnded, readAny}
+use Rattle.drawn.proofs.Loops.{depth-gate}
+use Rattle.drawn.proofs.Sorting.{Sorted}
+use Rattle.drawn.proofs.Naming.{gates-sorted}
+use Rattle.drawn.proofs.Same.{behaviour}
+use Rattle.drawn.proofs.Refused.{gives-22}
+use Rattle.drawn.proofs.Plain.{PlainDrawing, plain-accepted}
+use Rattle.drawn.proofs.Twins.{next-twins, lamps-twins}
+use Rattle.drawn.proofs.Reading.{accepted-sound, accepted-legal, text-lines}
+
+-- ---- an accepted text
+
+module _ (t : List ℕ) (d : Drawing) (a : readAny t ≡ accepted d) where
+  pub legal : Legal (d .counts) (table d)
+  legal = accepted-legal t a
+
+  -- for every sequence of switch settings the states and lamps of the text are those of the table, tick by tick
+  pub same-behaviour : (switches states lights : ℕ → List Bool) → ((t : ℕ) → length (switches t) ≡ d .counts .inputs) → length (states 0) ≡ d .counts .latches
+      → Behaves d switches states lights ↔ Follows d switches states lights
+  same-behaviour switches states lights set begins = behaviour d (accepted-sound t a .proper) switches states lights set begins
+
+  -- all gates, each once, by depth and then in file order
+  pub by-depth : Sorted (d .counts .gates) (deep (leftSource d) (rightSource d) (d .counts .gates)) (gateOrder d)
+  by-depth = gates-sorted d (accepted-sound t a .proper)
+
+  -- where depth is one more than the deeper operand's
+  pub depth-is : (i : ℕ) → i < d .counts .gates → deep (leftSource d) (rightSource d) (d .counts .gates) i
+      ≡ suc (max (depth (leftSource d) (rightSource d) (suc (d .counts .gates)) (leftSource d i)) (depth (leftSource d) (rightSource d) (suc (d .counts .gates)) (rightSource d i)))
+  unfolding deep
+  depth-is i h = let s = accepted-sound t a .proper .shallow i h in depth-gate (leftSource d) (rightSource d) (suc (d .counts .gates)) i (omega (arith, s))
+
+-- ---- a text that the plain reader accepts
+
+pub accepts-plain : (t : List ℕ) {c : Content} → readText t ≡ accepted c → PlainDrawing t c
+accepts-plain t a = plain-accepted t a
+
+-- under any switches and in any state both tables have the same next state and lamps
+module _ (t : List ℕ) (c : Content) (p : PlainDrawing t c) (r s : List Bool) where
+  pub plain-twins : length r ≡ c .counts .inputs → length s ≡ c .counts .latches
+      → (next boolean (circuitOf (c .counts) (table (p .drawn))) r s ≡ next boolean (circuitOf (c .counts) (c .words)) r s)
+      × (lamps boolean (circuitOf (c .counts) (table (p .drawn))) r s ≡ lamps boolean (circuitOf (c .counts) (c .words)) r s)
+  plain-twins i l = moved (p .counts-same) (p .words-same) (
+    next-twins (p .drawn) (p .proper) (p .due) (p .lawful) r s (rw (p .counts-same) i) (rw (p .counts-same) l),
+    lamps-twins (p .drawn) (p .proper) (p .due) (p .lawful) r s (rw (p .counts-same) i) (rw (p .counts-same) l),
+  )
+    where
+      moved : {n n′ : Counts} {ws ws′ : List ℕ} → n ≡ n′ → ws ≡ ws′
+          → (next boolean (circuitOf n (table (p .drawn))) r s ≡ next boolean (circuitOf n ws) r s) × (lamps boolean (circuitOf n (table (p .drawn))) r s ≡ lamps boolean (circuitOf n ws) r s)
+          → (next boolean (circuitOf n′ (table (p .drawn))) r s ≡ next boolean (circuitOf n′ ws′) r s) × (lamps boolean (circuitOf n′ (table (p .drawn))) r s ≡ lamps boolean (circuitOf n′ ws′) r s)
+      moved e f q = rw (← e, ← f) q
+
+-- ---- 22
+
+refused-same : {A : Type 0} {m n : ℕ} → _≡_ {A = Outcome A} (refused m) (refused n) → m ≡ n
+refused-same e = cc
+
+tested-refused : {A B : Type 0} (f : A → B) (a : A) (ts : List Test) (n : ℕ) → (onward f (tested ts (accepted a)) ≡ refused (suc n)) ↔ (refusal ts ≡ suc n)
+unfolding onward tested
+tested-refused {A} {B} f a ts n = (go (refusal ts), λ e. ap (onward f) (tested-stops ts (accepted a) (sym e)))
+  where
+    go : (k : ℕ) → onward f (after k (accepted a)) ≡ refused (suc n) → k ≡ suc n
+    go zero e = absurd (refused-accepted (sym e))
+    go (suc k) e = refused-same e
+
+module _ (ending t : List ℕ) {ns rest : List ℕ} {l : Lines} (short : length t ≤ 60000) (split : header ending t ≡ got ns rest) (head : Passed (anyHeaderTests ns))
+    (on : bodyOf ending ns rest ≡ accepted l) where
+  abbrev drawn : Drawing
+  drawn = drawing ns l
+
+  after-22 : refusal (afterTests ending ns l) ≡ 22 → refusal (drawingTests drawn) ≡ 22
+  unfolding afterTests
+  after-22 e = go (refusal (drawingTests drawn)) refl
+    where
+      numbered : Numbered (drawingTests drawn)
+      numbered = unfold drawingTests in omega arith
+
+      last : Passed (drawingTests drawn) → ⊥
+      last p = by-test (ends ending (l .rest))
+          (λ h. let z = append-past (drawingTests drawn) (ends ending (l .rest) or 9 ∷ []) p (past (ends ending (l .rest) or 9) [] h none) ∙ e in omega (arith, z))
+          (λ h. let z = append-past (drawingTests drawn) (ends ending (l .rest) or 9 ∷ []) p (stops (ends ending (l .rest) or 9) [] h) ∙ e in omega (arith, z))
+
+      go : (k : ℕ) → refusal (drawingTests drawn) ≡ k → refusal (drawingTests drawn) ≡ 22
+      go zero z = absurd (last (passes (drawingTests drawn) numbered (sym z)))
+      go (suc k) z = z ∙ refusal-append (drawingTests drawn) (ends ending (l .rest) or 9 ∷ []) z ∙ e
+
+  -- once its lines are read, a text is refused with 22 exactly if 20 and 21 are not given and some gate leads to itself
+  pub refused-22 : (readAnyEnded ending t ≡ refused 22) ↔ ((every (lines drawn) (once drawn) ≡ true) × (allDefined drawn ≡ true) × Looped drawn)
+  unfolding afterTests
+  refused-22 = (
+    λ e. gives-22 drawn .0 (after-22 (tested-refused (drawing ns) l (afterTests ending ns l) 21 .0 (sym (text-lines ending t short split head on) ∙ e))),
+    λ p. text-lines ending t short split head on ∙ tested-refused (drawing ns) l (afterTests ending ns l) 21 .1 (sym (refusal-append (drawingTests drawn) (ends ending (l .rest) or 9 ∷ []) (gives-22 drawn .1 p))),
+  )

@@ -1,0 +1,72 @@
+-- The text of a drawing (specification, 4.11, 4.15): as the plain text (4), with own literals as written. Its refusals are
+-- 1, 2, 3, line by line 4, 6 and 8, then 20, 21, 22, then 9, then 10. Assumes nothing.
+use mathlib.Core.Path.{_≡_}
+use mathlib.Core.List.{List, [], _∷_, _++_}
+use Prim.Native.Nat.{ℕ, suc, _+_, _*_}
+use lib.Dec.{leb, eqb}
+use lib.ListN.{length, getD}
+use Rattle.three.specs.Lists.{over}
+use Rattle.circuit.specs.declared.Counts.{Counts}
+use Rattle.circuit.specs.Refusal.{Test, _or_}
+use Rattle.circuit.specs.Table.{variables, tableLength, ceilingTests, Kind, input, latch, literal, gate, kinds}
+use Rattle.text.specs.Part.{got, ill}
+use Rattle.text.specs.Outcome.{Outcome, refused, tested, further, onward, numberOf, leaves}
+use Rattle.text.specs.Text.{fits, words, ends, Lines, readLines, header, countsOf, endingOf}
+use Rattle.text.specs.Calls.{zeros}
+use Rattle.drawn.specs.Drawing.{Drawing, drawingTests, table, renumbered}
+
+-- 6, and 8 for a latch: the rules for a line's words without 7
+unfoldable pub literalTests : ℕ → Kind → List ℕ → List Test
+literalTests most (input own) ws = []
+literalTests most (latch own) ws = leb (getD ws 0 0) most or 6 ∷ leb (getD ws 1 0) 2 or 8 ∷ []
+literalTests most literal ws = leb (getD ws 0 0) most or 6 ∷ []
+literalTests most (gate own) ws = leb (getD ws 0 0) most or 6 ∷ leb (getD ws 1 0) most or 6 ∷ []
+
+-- 4, then 6 and 8 for a line's numbers; `most` is the largest literal. An own literal is not judged here.
+unfoldable pub anyTests : ℕ → Kind → List ℕ → List Test
+anyTests most k ns = fits k (length ns) or 4 ∷ literalTests most k (words k ns)
+
+-- 2, then 3: M is at most 4,095 and at least I + L + A, and the ceilings hold
+unfoldable pub anyHeaderTests : List ℕ → List Test
+anyHeaderTests ns =
+    eqb (length ns) 5 or 2 ∷ leb (getD ns 0 0) 4095 or 3 ∷ leb (variables (countsOf ns)) (getD ns 0 0) or 3 ∷ ceilingTests (countsOf ns)
+
+-- the largest literal by the first line's M
+abbrev pub topOf : List ℕ → ℕ
+topOf ns = 2 * getD ns 0 0 + 1
+
+-- the lines behind the first
+abbrev pub bodyOf : List ℕ → List ℕ → List ℕ → Outcome Lines
+bodyOf ending ns rest = readLines ending (anyTests (topOf ns)) (kinds (countsOf ns)) rest
+
+-- the drawing of the first line's numbers and the lines
+abbrev pub drawing : List ℕ → Lines → Drawing
+drawing ns l = record { most = getD ns 0 0; counts = countsOf ns; owns = l .owns; words = l .words }
+
+-- 20, 21 and 22 after all lines, then 9
+unfoldable pub afterTests : List ℕ → List ℕ → Lines → List Test
+afterTests ending ns l = drawingTests (drawing ns l) ++ (ends ending (l .rest) or 9 ∷ [])
+
+-- a text whose lines have this ending
+unfoldable pub readAnyEnded : List ℕ → List ℕ → Outcome Drawing
+readAnyEnded ending t = tested (leb (length t) 60000 or 1 ∷ []) (elim (header ending t) [
+  | ill ↦ refused 2
+  | got ns rest ↦ tested (anyHeaderTests ns) (onward (drawing ns) (further (afterTests ending ns) (bodyOf ending ns rest)))
+])
+
+-- every line has the first one's ending
+unfoldable pub readAny : List ℕ → Outcome Drawing
+readAny t = readAnyEnded (endingOf t) t
+
+-- then 10 where the lent table is too short for the words, or the lent list for M + 1
+unfoldable pub readAnyInto : List ℕ → List ℕ → List ℕ → Outcome Drawing
+readAnyInto text words names =
+    further (λ d. leb (tableLength (d .counts)) (length words) or 10 ∷ leb (suc (d .most)) (length names) or 10 ∷ []) (readAny text)
+
+-- The contract of the reader for any order: its number, I, L, O and A, M, and both buffers at exit. A refusal changes no word; words beyond stay.
+pub record ReadingAny (text words names : List ℕ) (number : ℕ) (counts : Counts) (most : ℕ) (words′ names′ : List ℕ) : Type 0 where
+  pub answers : number ≡ numberOf (readAnyInto text words names)
+  pub returns : counts ≡ leaves (λ d. d .counts) zeros (readAnyInto text words names)
+  pub names-most : most ≡ leaves (λ d. d .most) 0 (readAnyInto text words names)
+  pub fills : words′ ≡ leaves (λ d. over (table d) words) words (readAnyInto text words names)
+  pub renumbers : names′ ≡ leaves (λ d. over (renumbered d) names) names (readAnyInto text words names)
