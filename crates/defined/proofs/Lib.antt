@@ -1,0 +1,5 @@
+pub mod Entering
+pub mod Knowing
+pub mod Defining
+pub mod Ordering
+pub mod Judging
