@@ -26,7 +26,7 @@ use Rattle.drawn.specs.Meaning.{Uses, Leads, uses, through}
 use Rattle.drawn.specs.Lines.{literalTests, anyTests, anyHeaderTests, drawing, afterTests, readAny}
 use Rattle.drawn.proofs.Proper.{Defined, constant, line, Owned, Proper, proper-passed}
 use Rattle.drawn.proofs.Refused.{looped}
-use Rattle.drawn.proofs.Reading.{text-fits}
+use Rattle.drawn.proofs.Reading.{text-fits, drawing-fits}
 use Rattle.drawn.proofs.Dues.{dues, due-at}
 
 -- ---- lines
@@ -132,7 +132,7 @@ plain-accepted t {c} a =
     let n : Counts = countsOf (h .numbers) in
     let e : getD (h .numbers) 0 0 ≡ variables n = eqb-true (getD (h .numbers) 0 0) (variables n) (h .passes .1 .0) in
     let b = plain-lines (endingOf t) (top n) (kinds n) (h .behind) (h .on) in
-    let d : Drawing = drawing (h .numbers) (h .lines) in
+    let d : Drawing = drawing (getD (h .numbers) 0 0) n (h .lines) in
     let counts-same : n ≡ c .counts = ap (λ (c : Content). c .counts) (h .gives) in
     let words-same : h .lines .words ≡ c .words = ap (λ (c : Content). c .words) (h .gives) in
     let lawful : Legal n (h .lines .words) = same-legal counts-same words-same (legal (c .counts) (c .words) (describes t a .legal)) in
@@ -140,7 +140,7 @@ plain-accepted t {c} a =
     let proper = due-proper d e due lawful in
     record {
       drawn = d;
-      reads = text-fits (endingOf t) t (h .short) (h .split) (plain-header (h .numbers) (h .passes)) (rw e (b .0)) (append-passed (drawingTests d) _ (proper-passed d proper) (h .closed, tt));
+      reads = text-fits (endingOf t) t (h .short) (h .split) (plain-header (h .numbers) (h .passes)) ∙ drawing-fits (endingOf t) (getD (h .numbers) 0 0) n (h .behind) (rw e (b .0)) (append-passed (drawingTests d) _ (proper-passed d proper) (h .closed, tt));
       counts-same = counts-same;
       words-same = words-same;
       most-same = e;

@@ -4,7 +4,7 @@ use mathlib.Core.Path.{_≡_, refl, sym, ap, _∙_}
 use mathlib.Core.Bool.{Bool, true}
 use mathlib.Core.Logic.{_↔_}
 use mathlib.Core.List.{List, [], _∷_}
-use Prim.Native.Nat.{ℕ, zero, suc, _<_, _≤_, max}
+use Prim.Native.Nat.{ℕ, zero, suc, _<_, max}
 use native.Mathlib.Omega.{arith}
 use lib.ListN.{length}
 use Rattle.three.specs.Lists.{every}
@@ -17,14 +17,13 @@ use Rattle.circuit.specs.Circuit.{next, lamps}
 use Rattle.circuit.specs.Table.{circuitOf}
 use Rattle.three.specs.Value.{boolean}
 use Rattle.circuit.proofs.Refusals.{Numbered, stops, past, none, passes, refusal-append, append-past}
-use Rattle.text.specs.Part.{got}
 use Rattle.text.specs.Outcome.{Outcome, accepted, refused, tested, onward}
-use Rattle.text.specs.Text.{ends, Lines, header, Content, readText}
+use Rattle.text.specs.Text.{ends, Lines, Content, readText}
 use Rattle.text.proofs.Outcomes.{refused-accepted, tested-stops}
 use Rattle.drawn.specs.Depth.{Source, gate, depth, deep}
 use Rattle.drawn.specs.Drawing.{Drawing, lines, leftSource, rightSource, gateOrder, once, allDefined, drawingTests, table}
 use Rattle.drawn.specs.Meaning.{Behaves, Follows, Looped}
-use Rattle.drawn.specs.Lines.{anyHeaderTests, bodyOf, drawing, afterTests, readAnyEnded, readAny}
+use Rattle.drawn.specs.Lines.{bodyOf, drawing, afterTests, readDrawing, readAny}
 use Rattle.drawn.proofs.Loops.{depth-gate}
 use Rattle.drawn.proofs.Sorting.{Sorted}
 use Rattle.drawn.proofs.Naming.{gates-sorted}
@@ -32,7 +31,7 @@ use Rattle.drawn.proofs.Same.{behaviour}
 use Rattle.drawn.proofs.Refused.{gives-22}
 use Rattle.drawn.proofs.Plain.{PlainDrawing, plain-accepted}
 use Rattle.drawn.proofs.Twins.{next-twins, lamps-twins}
-use Rattle.drawn.proofs.Reading.{accepted-sound, accepted-legal, text-lines}
+use Rattle.drawn.proofs.Reading.{accepted-sound, accepted-legal, drawing-lines}
 
 -- ---- an accepted text
 
@@ -88,31 +87,36 @@ tested-refused {A} {B} f a ts n = (go (refusal ts), λ e. ap (onward f) (tested-
     go zero e = absurd (refused-accepted (sym e))
     go (suc k) e = refused-same e
 
-module _ (ending t : List ℕ) {ns rest : List ℕ} {l : Lines} (short : length t ≤ 60000) (split : header ending t ≡ got ns rest) (head : Passed (anyHeaderTests ns))
-    (on : bodyOf ending ns rest ≡ accepted l) where
+module _ (ending : List ℕ) (most : ℕ) (c : Counts) (rest : List ℕ) {l : Lines} (on : bodyOf ending most c rest ≡ accepted l) where
   abbrev drawn : Drawing
-  drawn = drawing ns l
+  drawn = drawing most c l
 
-  after-22 : refusal (afterTests ending ns l) ≡ 22 → refusal (drawingTests drawn) ≡ 22
+  abbrev last : List Test
+  last = ends ending (l .rest) or 9 ∷ []
+
+  after-22 : refusal (afterTests ending drawn (l .rest)) ≡ 22 → refusal (drawingTests drawn) ≡ 22
   unfolding afterTests
   after-22 e = go (refusal (drawingTests drawn)) refl
     where
       numbered : Numbered (drawingTests drawn)
       numbered = unfold drawingTests in omega arith
 
-      last : Passed (drawingTests drawn) → ⊥
-      last p = by-test (ends ending (l .rest))
-          (λ h. let z = append-past (drawingTests drawn) (ends ending (l .rest) or 9 ∷ []) p (past (ends ending (l .rest) or 9) [] h none) ∙ e in omega (arith, z))
-          (λ h. let z = append-past (drawingTests drawn) (ends ending (l .rest) or 9 ∷ []) p (stops (ends ending (l .rest) or 9) [] h) ∙ e in omega (arith, z))
+      only-9 : Passed (drawingTests drawn) → ⊥
+      only-9 p = by-test (ends ending (l .rest))
+          (λ h. let z = append-past (drawingTests drawn) last p (past (ends ending (l .rest) or 9) [] h none) ∙ e in omega (arith, z))
+          (λ h. let z = append-past (drawingTests drawn) last p (stops (ends ending (l .rest) or 9) [] h) ∙ e in omega (arith, z))
 
       go : (k : ℕ) → refusal (drawingTests drawn) ≡ k → refusal (drawingTests drawn) ≡ 22
-      go zero z = absurd (last (passes (drawingTests drawn) numbered (sym z)))
-      go (suc k) z = z ∙ refusal-append (drawingTests drawn) (ends ending (l .rest) or 9 ∷ []) z ∙ e
+      go zero z = absurd (only-9 (passes (drawingTests drawn) numbered (sym z)))
+      go (suc k) z = z ∙ refusal-append (drawingTests drawn) last z ∙ e
 
   -- once its lines are read, a text is refused with 22 exactly if 20 and 21 are not given and some gate leads to itself
-  pub refused-22 : (readAnyEnded ending t ≡ refused 22) ↔ ((every (lines drawn) (once drawn) ≡ true) × (allDefined drawn ≡ true) × Looped drawn)
+  pub refused-22 : (readDrawing ending most c rest ≡ refused 22) ↔ ((every (lines drawn) (once drawn) ≡ true) × (allDefined drawn ≡ true) × Looped drawn)
   unfolding afterTests
-  refused-22 = (
-    λ e. gives-22 drawn .0 (after-22 (tested-refused (drawing ns) l (afterTests ending ns l) 21 .0 (sym (text-lines ending t short split head on) ∙ e))),
-    λ p. text-lines ending t short split head on ∙ tested-refused (drawing ns) l (afterTests ending ns l) 21 .1 (sym (refusal-append (drawingTests drawn) (ends ending (l .rest) or 9 ∷ []) (gives-22 drawn .1 p))),
-  )
+  refused-22 =
+      let shown = drawing-lines ending most c rest on in
+      let as-refusal = tested-refused (drawing most c) l (afterTests ending drawn (l .rest)) 21 in
+      (
+        λ e. gives-22 drawn .0 (after-22 (as-refusal .0 (sym shown ∙ e))),
+        λ p. shown ∙ as-refusal .1 (sym (refusal-append (drawingTests drawn) last (gives-22 drawn .1 p))),
+      )

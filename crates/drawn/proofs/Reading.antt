@@ -21,7 +21,7 @@ use Rattle.text.proofs.Parts.{by-part}
 use Rattle.text.proofs.Outcomes.{tested-past, refused-accepted, tested-accepted, further-accepted, onward-accepted}
 use Rattle.text.proofs.Steps.{line-accepted}
 use Rattle.drawn.specs.Drawing.{Drawing, reset, drawingTests, table}
-use Rattle.drawn.specs.Lines.{literalTests, anyTests, anyHeaderTests, topOf, bodyOf, drawing, afterTests, readAnyEnded, readAny}
+use Rattle.drawn.specs.Lines.{literalTests, anyTests, anyHeaderTests, bodyOf, drawing, afterTests, readDrawing, readAnyEnded, readAny}
 use Rattle.drawn.proofs.Proper.{Proper, proper}
 use Rattle.drawn.proofs.Tables.{table-legal}
 
@@ -31,20 +31,39 @@ any-numbered most k ns = elim k [ input own ↦ omega arith | latch own ↦ omeg
 
 -- ---- a text
 
--- A text that is read: its first line, its lines, and the tests after them
+-- Lines that are read, and nothing behind them refused
+module _ (ending : List ℕ) (most : ℕ) (c : Counts) (rest : List ℕ) where
+  abbrev tests : Lines → List Test
+  tests l = afterTests ending (drawing most c l) (l .rest)
+
+  after-numbered : (l : Lines) → Numbered (tests l)
+  unfolding afterTests drawingTests
+  after-numbered l = omega arith
+
+  pub drawing-accepted : {d : Drawing} → readDrawing ending most c rest ≡ accepted d → (l : Lines) × (bodyOf ending most c rest ≡ accepted l) × Passed (tests l) × (drawing most c l ≡ d)
+  unfolding readDrawing
+  drawing-accepted a =
+      let q = onward-accepted (drawing most c) (further tests (bodyOf ending most c rest)) a in
+      let f = further-accepted tests (bodyOf ending most c rest) after-numbered (q .1) in
+      (q .0, f .0, f .1, q .2)
+
+  module _ {l : Lines} (on : bodyOf ending most c rest ≡ accepted l) where
+    -- what is left of reading once the lines are read
+    pub drawing-lines : readDrawing ending most c rest ≡ onward (drawing most c) (tested (tests l) (accepted l))
+    unfolding readDrawing further
+    drawing-lines = rw on
+
+    pub drawing-fits : Passed (tests l) → readDrawing ending most c rest ≡ accepted (drawing most c l)
+    unfolding onward
+    drawing-fits q = drawing-lines ∙ ap (onward (drawing most c)) (tested-past (tests l) (accepted l) (passed-refusal _ q))
+
+-- A text that is read: its first line, and what the lines behind it make
 pub record TextRead (ending t : List ℕ) (d : Drawing) : Type 0 where
   pub numbers : List ℕ
   pub rest : List ℕ
-  pub said : Lines
   pub split : header ending t ≡ got numbers rest
   pub passes : Passed (anyHeaderTests numbers)
-  pub on : bodyOf ending numbers rest ≡ accepted said
-  pub after : Passed (afterTests ending numbers said)
-  pub gives : drawing numbers said ≡ d
-
-after-numbered : (ending ns : List ℕ) (l : Lines) → Numbered (afterTests ending ns l)
-unfolding afterTests drawingTests
-after-numbered ending ns l = omega arith
+  pub on : readDrawing ending (getD numbers 0 0) (countsOf numbers) rest ≡ accepted d
 
 pub text-accepted : (ending t : List ℕ) {d : Drawing} → readAnyEnded ending t ≡ accepted d → TextRead ending t d
 unfolding readAnyEnded anyHeaderTests ceilingTests
@@ -53,24 +72,15 @@ text-accepted ending t a =
     by-part (header ending t)
     (λ ns rest e.
     let p = tested-accepted (anyHeaderTests ns) _ (omega arith) (rw e at (s .1)) in
-    let q = onward-accepted (drawing ns) (further (afterTests ending ns) (bodyOf ending ns rest)) (p .1) in
-    let f = further-accepted (afterTests ending ns) (bodyOf ending ns rest) (after-numbered ending ns) (q .1) in
-    record { numbers = ns; rest = rest; said = q .0; split = e; passes = p .0; on = f .0; after = f .1; gives = q .2 })
+    record { numbers = ns; rest = rest; split = e; passes = p .0; on = p .1 })
     (λ e. absurd (refused-accepted (rw e at (s .1))))
 
--- what is left of reading once the first line is read and the lines are
-pub text-lines : (ending t : List ℕ) {ns rest : List ℕ} {l : Lines} → length t ≤ 60000 → header ending t ≡ got ns rest → Passed (anyHeaderTests ns)
-    → bodyOf ending ns rest ≡ accepted l → readAnyEnded ending t ≡ onward (drawing ns) (tested (afterTests ending ns l) (accepted l))
-unfolding readAnyEnded further
-text-lines ending t {ns} short e p on =
+pub text-fits : (ending t : List ℕ) {ns rest : List ℕ} → length t ≤ 60000 → header ending t ≡ got ns rest → Passed (anyHeaderTests ns)
+    → readAnyEnded ending t ≡ readDrawing ending (getD ns 0 0) (countsOf ns) rest
+unfolding readAnyEnded
+text-fits ending t {ns} short e p =
     tested-past _ _ (past _ [] (le-leb (length t) 60000 short) none)
-    ∙ rw e (tested-past (anyHeaderTests ns) _ (passed-refusal _ p) ∙ rw on)
-
-pub text-fits : (ending t : List ℕ) {ns rest : List ℕ} {l : Lines} → length t ≤ 60000 → header ending t ≡ got ns rest → Passed (anyHeaderTests ns)
-    → bodyOf ending ns rest ≡ accepted l → Passed (afterTests ending ns l) → readAnyEnded ending t ≡ accepted (drawing ns l)
-unfolding onward
-text-fits ending t {ns} {l = l} short e p on q =
-    text-lines ending t short e p on ∙ ap (onward (drawing ns)) (tested-past (afterTests ending ns l) (accepted l) (passed-refusal _ q))
+    ∙ rw e (tested-past (anyHeaderTests ns) _ (passed-refusal _ p))
 
 -- ---- what that says of the drawing
 
@@ -108,13 +118,15 @@ unfolding readAny anyHeaderTests afterTests kinds
 accepted-sound t {d} a =
     let ending : List ℕ = endingOf t in
     let f = text-accepted ending t a in
+    let m : ℕ = getD (f .numbers) 0 0 in
     let c : Counts = countsOf (f .numbers) in
-    let g = inputs-read ending (topOf (f .numbers)) 2 (c .inputs) _ (f .rest) (f .on) in
-    rw (← (f .gives)) (record {
+    let q = drawing-accepted ending m c (f .rest) (f .on) in
+    let g = inputs-read ending (2 * m + 1) 2 (c .inputs) _ (f .rest) (q .1) in
+    rw (← (q .3)) (record {
       bounded = passed-bounded c (f .passes .1 .1 .1);
-      most = leb-true (getD (f .numbers) 0 0) 4095 (f .passes .1 .0);
-      resets = λ i h. rw (g .3) (latches-read ending (topOf (f .numbers)) _ (c .latches) _ (g .0) (g .2) i h);
-      proper = proper (drawing (f .numbers) (f .said)) (passed-append (drawingTests (drawing (f .numbers) (f .said))) _ (f .after) .0);
+      most = leb-true m 4095 (f .passes .1 .0);
+      resets = λ i h. rw (g .3) (latches-read ending (2 * m + 1) _ (c .latches) _ (g .0) (g .2) i h);
+      proper = proper (drawing m c (q .0)) (passed-append (drawingTests (drawing m c (q .0))) _ (q .2) .0);
     })
 
 -- rule 7 and the others hold of the table

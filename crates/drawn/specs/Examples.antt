@@ -10,7 +10,7 @@ use Rattle.text.specs.Bench.{bytes, outcomeOf}
 use Rattle.drawn.specs.Numbers.{first, pick, byKey, pairs}
 use Rattle.drawn.specs.Depth.{depth, deep, loopless, order, numbered}
 use Rattle.drawn.specs.Drawing.{gateOf, source, gateOrder, once, defined, allDefined, drawingTests, lineAt, place, name, renumbered, rename, table}
-use Rattle.drawn.specs.Lines.{literalTests, anyTests, anyHeaderTests, afterTests, readAnyEnded, readAny}
+use Rattle.drawn.specs.Lines.{literalTests, anyTests, anyHeaderTests, afterTests, readDrawing, readAnyEnded, readAny}
 
 -- What a drawing is made into: the table, and old variable to new
 pub record Made : Type 0 where
@@ -19,7 +19,7 @@ pub record Made : Type 0 where
 
 -- a text's outcome, all of it open to computation
 unfoldable pub madeOf : String → Outcome Made
-unfolding outcomeOf bytes further first pick byKey pairs depth deep loopless order gateOf source gateOrder once defined allDefined drawingTests lineAt place name renumbered rename table shownOwn literalTests anyTests anyHeaderTests afterTests readAnyEnded readAny
+unfolding outcomeOf bytes further first pick byKey pairs depth deep loopless order gateOf source gateOrder once defined allDefined drawingTests lineAt place name renumbered rename table shownOwn literalTests anyTests anyHeaderTests afterTests readDrawing readAnyEnded readAny
 madeOf t = onward (λ d. record { words = table d; names = renumbered d }) (readAny (bytes t))
 
 abbrev made : List ℕ → List ℕ → Outcome Made

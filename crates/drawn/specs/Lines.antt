@@ -31,42 +31,48 @@ unfoldable pub anyHeaderTests : List ℕ → List Test
 anyHeaderTests ns =
     eqb (length ns) 5 or 2 ∷ leb (getD ns 0 0) 4095 or 3 ∷ leb (variables (countsOf ns)) (getD ns 0 0) or 3 ∷ ceilingTests (countsOf ns)
 
--- the largest literal by the first line's M
-abbrev pub topOf : List ℕ → ℕ
-topOf ns = 2 * getD ns 0 0 + 1
+-- the lines behind the first: M and the counts are the first line's
+abbrev pub bodyOf : List ℕ → ℕ → Counts → List ℕ → Outcome Lines
+bodyOf ending most c rest = readLines ending (anyTests (2 * most + 1)) (kinds c) rest
 
--- the lines behind the first
-abbrev pub bodyOf : List ℕ → List ℕ → List ℕ → Outcome Lines
-bodyOf ending ns rest = readLines ending (anyTests (topOf ns)) (kinds (countsOf ns)) rest
-
--- the drawing of the first line's numbers and the lines
-abbrev pub drawing : List ℕ → Lines → Drawing
-drawing ns l = record { most = getD ns 0 0; counts = countsOf ns; owns = l .owns; words = l .words }
+-- the drawing that the lines make
+abbrev pub drawing : ℕ → Counts → Lines → Drawing
+drawing most c l = record { most = most; counts = c; owns = l .owns; words = l .words }
 
 -- 20, 21 and 22 after all lines, then 9
-unfoldable pub afterTests : List ℕ → List ℕ → Lines → List Test
-afterTests ending ns l = drawingTests (drawing ns l) ++ (ends ending (l .rest) or 9 ∷ [])
+unfoldable pub afterTests : List ℕ → Drawing → List ℕ → List Test
+afterTests ending d rest = drawingTests d ++ (ends ending rest or 9 ∷ [])
+
+unfoldable pub readDrawing : List ℕ → ℕ → Counts → List ℕ → Outcome Drawing
+readDrawing ending most c rest =
+    onward (drawing most c) (further (λ l. afterTests ending (drawing most c l) (l .rest)) (bodyOf ending most c rest))
 
 -- a text whose lines have this ending
 unfoldable pub readAnyEnded : List ℕ → List ℕ → Outcome Drawing
 readAnyEnded ending t = tested (leb (length t) 60000 or 1 ∷ []) (elim (header ending t) [
   | ill ↦ refused 2
-  | got ns rest ↦ tested (anyHeaderTests ns) (onward (drawing ns) (further (afterTests ending ns) (bodyOf ending ns rest)))
+  | got ns rest ↦ tested (anyHeaderTests ns) (readDrawing ending (getD ns 0 0) (countsOf ns) rest)
 ])
 
 -- every line has the first one's ending
 unfoldable pub readAny : List ℕ → Outcome Drawing
 readAny t = readAnyEnded (endingOf t) t
 
--- then 10 where the lent table is too short for the words, or the lent list for M + 1
-unfoldable pub readAnyInto : List ℕ → List ℕ → List ℕ → Outcome Drawing
-readAnyInto text words names =
-    further (λ d. leb (tableLength (d .counts)) (length words) or 10 ∷ leb (suc (d .most)) (length names) or 10 ∷ []) (readAny text)
+-- 10 where the lent table is too short for the words, or the lent list for M + 1
+unfoldable pub roomTests : List ℕ → List ℕ → Drawing → List Test
+roomTests words names d = leb (tableLength (d .counts)) (length words) or 10 ∷ leb (suc (d .most)) (length names) or 10 ∷ []
 
--- The contract of the reader for any order: its number, I, L, O and A, M, and both buffers at exit. A refusal changes no word; words beyond stay.
-pub record ReadingAny (text words names : List ℕ) (number : ℕ) (counts : Counts) (most : ℕ) (words′ names′ : List ℕ) : Type 0 where
-  pub answers : number ≡ numberOf (readAnyInto text words names)
-  pub returns : counts ≡ leaves (λ d. d .counts) zeros (readAnyInto text words names)
-  pub names-most : most ≡ leaves (λ d. d .most) 0 (readAnyInto text words names)
-  pub fills : words′ ≡ leaves (λ d. over (table d) words) words (readAnyInto text words names)
-  pub renumbers : names′ ≡ leaves (λ d. over (renumbered d) names) names (readAnyInto text words names)
+unfoldable pub readAnyInto : List ℕ → List ℕ → List ℕ → Outcome Drawing
+readAnyInto text words names = further (roomTests words names) (readAny text)
+
+-- What is left by an outcome: the number, I, L, O and A, M, and both buffers. A refusal changes no word; words beyond stay.
+pub record LeftBy (o : Outcome Drawing) (words names : List ℕ) (number : ℕ) (counts : Counts) (most : ℕ) (words′ names′ : List ℕ) : Type 0 where
+  pub answers : number ≡ numberOf o
+  pub returns : counts ≡ leaves (λ d. d .counts) zeros o
+  pub most-is : most ≡ leaves (λ d. d .most) 0 o
+  pub fills : words′ ≡ leaves (λ d. over (table d) words) words o
+  pub renumbers : names′ ≡ leaves (λ d. over (renumbered d) names) names o
+
+-- The contract of the reader for any order
+abbrev pub ReadingAny : (text words names : List ℕ) (number : ℕ) (counts : Counts) (most : ℕ) (words′ names′ : List ℕ) → Type 0
+ReadingAny text words names number counts most words′ names′ = LeftBy (readAnyInto text words names) words names number counts most words′ names′
