@@ -115,8 +115,7 @@ module _ (ending : List ℕ) (most : ℕ) (c : Counts) (rest : List ℕ) {l : Li
   unfolding afterTests
   refused-22 =
       let shown = drawing-lines ending most c rest on in
-      let as-refusal = tested-refused (drawing most c) l (afterTests ending drawn (l .rest)) 21 in
-      (
+      let as-refusal = tested-refused (drawing most c) l (afterTests ending drawn (l .rest)) 21 in (
         λ e. gives-22 drawn .0 (after-22 (as-refusal .0 (sym shown ∙ e))),
         λ p. shown ∙ as-refusal .1 (sym (refusal-append (drawingTests drawn) last (gives-22 drawn .1 p))),
       )

@@ -25,7 +25,7 @@ ghost use Rattle.reader.specs.ReaderInCode.{opened, LinesJudged, kindsTh
 ghost use Rattle.text.specs.KindsInCode.{coded};
 
 // At most 60,000 bytes.
-const MOST_TEXT: usize = 60000;
+pub const MOST_TEXT: usize = 60000;
 
 fn opens(text: &[u8]) -> bool
     ensures { λ r. ⌜ r ≡ opened (now (text .entry)) ⌝ }
@@ -41,7 +41,7 @@ fn opens(text: &[u8]) -> bool
     true
 }
 
-fn header(text: &[u8], ending: Ending) -> ReadLine
+pub fn header(text: &[u8], ending: Ending) -> ReadLine
     ensures { λ r. ⌜ LineFound (now (text .entry)) (firstLine (endingBytes ending) (now (text .entry))) r ⌝ }
 {
     if !opens(text) {
@@ -51,7 +51,7 @@ fn header(text: &[u8], ending: Ending) -> ReadLine
 }
 
 // I, L, O and A of the first line.
-fn counts_of(first: ReadLine) -> Counts
+pub fn counts_of(first: ReadLine) -> Counts
     ensures { λ r. ⌜ r ≡ countsOf (numbersOf first) ⌝ }
 {
     Counts {
@@ -218,7 +218,7 @@ fn judge_lines(
 }
 
 // The end of the text, or a line that is just `c`.
-fn ended(text: &[u8], at: usize, ending: Ending) -> bool
+pub fn ended(text: &[u8], at: usize, ending: Ending) -> bool
     requires { ⌜ at ≤ length (now text) ⌝ }
     ensures { λ r. ⌜ r ≡ ends (endingBytes ending) (from (now (text .entry)) at) ⌝ }
 {
@@ -323,7 +323,7 @@ fn fill_word(value: usize, table: &mut [u16], word: usize) -> usize
 }
 
 // The words of a line of a kind, stored from a word of the table on; the word behind them.
-fn fill_line(kind: u8, found: ReadLine, table: &mut [u16], word: usize) -> usize
+pub fn fill_line(kind: u8, found: ReadLine, table: &mut [u16], word: usize) -> usize
     requires { ⌜ WordsFit (words (coded kind 0) (numbersOf found)) word (now table) ⌝ }
     ensures { λ r. ⌜ (now (table .exit) ≡ sets (now (table .entry)) word (words (coded kind 0) (numbersOf found))) × (r ≡ word + length (words (coded kind 0) (numbersOf found))) ⌝ }
 {

@@ -1,0 +1,4 @@
+pub mod Judging
+pub mod Keeping
+pub mod Turning
+pub mod Bodies
