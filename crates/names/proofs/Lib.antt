@@ -1,2 +1,3 @@
 pub mod Marking
 pub mod Tabling
+pub mod Drawn

@@ -3,9 +3,10 @@ use circuit::Counts;
 ghost use mathlib.Core.Path.{_≡_};
 ghost use Prim.Native.Nat.{ℕ, _+_, _*_, _<_, _≤_};
 ghost use lib.ListN.{length, getD};
-ghost use Rattle.circuit.specs.Table.{tableLength};
-ghost use Rattle.three.specs.Lists.{over};
-ghost use Rattle.drawn.specs.Drawing.{Drawing, name};
+ghost use Rattle.circuit.specs.Table.{variables, tableLength};
+ghost use Rattle.three.specs.Lists.{tabulate, over};
+ghost use Rattle.drawn.specs.Drawing.{Drawing, name, table as tableOf, renumbered as renumberedOf};
+ghost use Rattle.defined.specs.Places.{held, Spoken, DrawingJudged};
 ghost use Rattle.drawn.proofs.Proper.{Proper};
 ghost use Rattle.names.specs.Naming.{lineBy, Followed, Of, Numbers, renamedBy};
 ghost use Rattle.names.specs.Tabling.{tableBy, Tabled};
@@ -84,4 +85,34 @@ pub fn fill_table(
     for k in 0..n {
         table[k] = word_at(counts, words, names, order, k);
     }
+}
+
+// The numbers of the first variables, into the front of what is lent.
+fn store_names(names: &[u16; 4096], count: usize, renumbered: &mut [u16])
+    requires { ⌜ (length (now names) ≡ 4096) × (count ≤ 4096) × (count ≤ length (now renumbered)) ⌝ }
+    ensures { λ _. ⌜ now (renumbered .exit) ≡ over (tabulate count (λ v. getD (now (names .entry)) v 0)) (now (renumbered .entry)) ⌝ }
+{
+    for v in 0..count {
+        renumbered[v] = names[v];
+    }
+}
+
+// Table and list of a drawing that 20, 21 and 22 do not refuse.
+pub fn fill_drawing(
+    counts: Counts,
+    most: usize,
+    owns: &[u32],
+    words: &[u16],
+    order: &[u16; 4096],
+    table: &mut [u16],
+    renumbered: &mut [u16],
+)
+    requires { ⌜ DrawingJudged (held most counts (now owns) (now words)) 0 (now order) × Spoken counts (now words) × (variables counts ≤ length (now owns)) × (most ≤ 4095) × (tableLength counts ≤ length (now table)) × (most + 1 ≤ length (now renumbered)) ⌝ }
+    ensures { λ _. ⌜ (now (table .exit) ≡ over (tableOf (held most counts (now (owns .entry)) (now (words .entry)))) (now (table .entry))) × (now (renumbered .exit) ≡ over (renumberedOf (held most counts (now (owns .entry)) (now (words .entry)))) (now (renumbered .entry))) ⌝ }
+{
+    let leaves = counts.inputs + counts.latches;
+    let mut names = [0u16; 4096];
+    name_lines(owns, order, leaves, counts.gates, &mut names);
+    fill_table(counts, words, &names, order, table);
+    store_names(&names, most + 1, renumbered);
 }
