@@ -28,7 +28,7 @@ returns c =
     let all = names .1 _ (judged-proper _ _ _ _ _ (pre .0)) (of-drawing _ _ _ _ _ (pre .0)) in
     (
       table-left _ _ _ _ _ (pre .0) (pre .1) (pre .2) (pre .3) _ (names .0) all _ (c .before .before .before .before .before .before .before .fill-table .ensures),
-      list-left _ _ _ _ _ (pre .0) (pre .1) (pre .2) (pre .3) _ (names .0) all _ (c .before .before .store-names .ensures),
+      list-left _ _ _ _ _ (pre .0) (pre .1) (pre .2) (pre .3) (named .name-lines .last .1 .1 .1 .1 .0) (names .0) all _ (c .before .before .store-names .ensures),
     )
 
 pub fill-drawing-spec : {M : Type 1} → statement M
