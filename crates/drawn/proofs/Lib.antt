@@ -15,3 +15,4 @@ pub mod Rounds
 pub mod Alike
 pub mod Twins
 pub mod Promise
+pub mod Determined

@@ -1,7 +1,7 @@
 -- What is accepted: the first line, then line by line, then 20, 21, 22 and 9; and what that says of the drawing. Assumes nothing.
 use mathlib.Core.Path.{_≡_, refl, sym, ap, _∙_}
 use mathlib.Core.Bool.{true}
-use mathlib.Core.List.{List, [], _∷_}
+use mathlib.Core.List.{List, [], _∷_, _++_}
 use Prim.Native.Nat.{ℕ, zero, suc, _+_, _*_, _≤_, _<_, suc-le-suc}
 use native.Mathlib.Nat.{le-of-suc-le-suc, not-suc-le-zero}
 use native.Mathlib.Omega.{arith}
@@ -18,7 +18,7 @@ use Rattle.text.specs.Part.{got}
 use Rattle.text.specs.Outcome.{accepted, refused, tested, further, onward}
 use Rattle.text.specs.Text.{fits, resetWord, words, Lines, readLines, header, countsOf, endingOf}
 use Rattle.text.proofs.Parts.{by-part}
-use Rattle.text.proofs.Outcomes.{tested-past, refused-accepted, tested-accepted, further-accepted, onward-accepted}
+use Rattle.text.proofs.Outcomes.{accepted-same, tested-past, refused-accepted, tested-accepted, further-accepted, onward-accepted}
 use Rattle.text.proofs.Steps.{line-accepted}
 use Rattle.drawn.specs.Drawing.{Drawing, reset, drawingTests, table}
 use Rattle.drawn.specs.Lines.{literalTests, anyTests, anyHeaderTests, bodyOf, drawing, afterTests, readDrawing, readAnyEnded, readAny}
@@ -30,6 +30,31 @@ unfolding anyTests literalTests
 any-numbered most k ns = elim k [ input own ↦ omega arith | latch own ↦ omega arith | gate own ↦ omega arith | literal ↦ omega arith ]
 
 -- ---- a text
+
+-- words that nothing refuses are small
+pub words-small : (most : ℕ) (k : Kind) (ns : List ℕ) → most < 8192 → Passed (anyTests most k ns) → (i : ℕ) → getD (words k ns) i 0 < 8192
+unfolding anyTests words literalTests
+words-small most (input own) ns h p i = omega arith
+words-small most (latch own) ns h p zero = omega (arith, leb-true)
+words-small most (latch own) ns h p (suc zero) = omega (arith, leb-true)
+words-small most (latch own) ns h p (suc (suc i)) = omega arith
+words-small most literal ns h p zero = omega (arith, leb-true)
+words-small most literal ns h p (suc i) = omega arith
+words-small most (gate own) ns h p zero = omega (arith, leb-true)
+words-small most (gate own) ns h p (suc zero) = omega (arith, leb-true)
+words-small most (gate own) ns h p (suc (suc i)) = omega arith
+
+pub accepted-small : (ending : List ℕ) (most : ℕ) (ks : List Kind) (t : List ℕ) {l : Lines} → most < 8192 → readLines ending (anyTests most) ks t ≡ accepted l → (i : ℕ) → getD (l .words) i 0 < 8192
+unfolding readLines
+accepted-small ending most [] t h a i = rw (← (accepted-same a)) (omega arith)
+accepted-small ending most (k ∷ ks) t h a i =
+    let f = line-accepted ending (anyTests most) k ks t (any-numbered most k) a in
+    rw (← (f .gives)) (either (words k (f .numbers)) (f .others .words) (words-small most k (f .numbers) h (f .passes)) (accepted-small ending most ks (f .behind) h (f .on)) i)
+  where
+    either : (xs ys : List ℕ) → ((i : ℕ) → getD xs i 0 < 8192) → ((i : ℕ) → getD ys i 0 < 8192) → (i : ℕ) → getD (xs ++ ys) i 0 < 8192
+    either [] ys p q i = q i
+    either (x ∷ xs) ys p q zero = p 0
+    either (x ∷ xs) ys p q (suc i) = either xs ys (λ j. p (suc j)) q i
 
 -- Lines that are read, and nothing behind them refused
 module _ (ending : List ℕ) (most : ℕ) (c : Counts) (rest : List ℕ) where

@@ -4,12 +4,11 @@ use mathlib.Core.Bool.{Bool, true, false}
 use mathlib.Core.List.{List, [], _∷_}
 use Prim.Native.Nat.{ℕ, zero, suc, _≤_, _<_}
 use native.Mathlib.Omega.{arith}
-use borrow.Author.Tests.{le-leb, lt-leb, leb-true}
+use borrow.Author.Tests.{le-leb, lt-leb}
 use lib.Dec.{leb, eqb}
 use lib.ListN.{length, getD}
 use Rattle.circuit.specs.Refusal.{refusal}
-use Rattle.circuit.specs.RulesInCode.{Passed}
-use Rattle.circuit.specs.Table.{Kind, input, latch, literal, gate}
+use Rattle.circuit.specs.Table.{input, latch, literal, gate}
 use Rattle.circuit.proofs.Refusals.{stops, past, none}
 use Rattle.text.specs.Text.{fits, resetWord, words, shownOwn}
 use Rattle.text.specs.KindsInCode.{coded}
@@ -137,16 +136,3 @@ shows-alike zero own ns = refl
 shows-alike (suc zero) own ns = refl
 shows-alike (suc (suc zero)) own ns = refl
 shows-alike (suc (suc (suc k))) own ns = refl
-
--- words that nothing refuses are small
-pub words-small : (most : ℕ) (k : Kind) (ns : List ℕ) → most < 8192 → Passed (anyTests most k ns) → (i : ℕ) → getD (words k ns) i 0 < 8192
-unfolding anyTests words literalTests
-words-small most (input own) ns h p i = omega arith
-words-small most (latch own) ns h p zero = omega (arith, leb-true)
-words-small most (latch own) ns h p (suc zero) = omega (arith, leb-true)
-words-small most (latch own) ns h p (suc (suc i)) = omega arith
-words-small most literal ns h p zero = omega (arith, leb-true)
-words-small most literal ns h p (suc i) = omega arith
-words-small most (gate own) ns h p zero = omega (arith, leb-true)
-words-small most (gate own) ns h p (suc zero) = omega (arith, leb-true)
-words-small most (gate own) ns h p (suc (suc i)) = omega arith

@@ -28,9 +28,9 @@ use Rattle.lines.proofs.Finding.{line-length, line-got, line-ill-formed}
 use Rattle.reader.specs.ReaderInCode.{WordsFit}
 use Rattle.reader.proofs.Bodies.{after-refused}
 use Rattle.drawn.specs.Lines.{anyTests}
-use Rattle.drawn.proofs.Reading.{any-numbered}
+use Rattle.drawn.proofs.Reading.{any-numbered, words-small}
 use Rattle.listing.specs.ListingInCode.{shownBy, worded, Stand, stand, behind, whole, Listable, Listed}
-use Rattle.listing.proofs.Judging.{tests-alike, shows-alike, words-small, count-stops, lamp-shows, other-shows}
+use Rattle.listing.proofs.Judging.{tests-alike, shows-alike, count-stops, lamp-shows, other-shows}
 
 -- ---- a list stored behind what is taken
 

@@ -1,8 +1,8 @@
 -- A drawing that 20, 21 and 22 do not refuse is followed, numbered and made into its table. Assumes nothing.
-use mathlib.Core.Path.{_≡_, refl, sym, ap, _∙_}
-use mathlib.Core.Bool.{true, false}
+use mathlib.Core.Path.{_≡_, refl, ap, _∙_}
+use mathlib.Core.Bool.{true}
 use mathlib.Core.List.{List}
-use Prim.Native.Nat.{ℕ, suc, _+_, _*_, _<_, _≤_}
+use Prim.Native.Nat.{ℕ, suc, _+_, _<_, _≤_}
 use native.Mathlib.Numerals.{add-one}
 use native.Mathlib.Omega.{arith}
 use borrow.Author.Tests.{ltb-true}
@@ -11,13 +11,13 @@ use lib.ListN.{length, getD}
 use Rattle.three.specs.Lists.{tabulate, over}
 use Rattle.three.proofs.Lists.{by-test, tabulate-ext}
 use Rattle.circuit.specs.declared.Counts.{Counts}
-use Rattle.circuit.specs.Table.{variables, tableLength}
+use Rattle.circuit.specs.Table.{variables}
 use Rattle.circuit.proofs.Refusals.{Numbered, passes}
 use Rattle.drawn.specs.Drawing.{Drawing, leaves, lines, place, name, drawingTests, table, renumbered}
 use Rattle.drawn.proofs.Proper.{Proper, proper}
 use Rattle.drawn.proofs.Naming.{gate-small}
 use Rattle.defined.specs.Places.{held, Spoken, DrawingJudged}
-use Rattle.names.specs.Naming.{Followed, Of, Numbers}
+use Rattle.names.specs.Naming.{Followed, Of}
 use Rattle.names.specs.Tabling.{tableBy, Tabled}
 use Rattle.names.proofs.Tabling.{table-same}
 

@@ -1,6 +1,5 @@
 -- `names::fill_drawing` meets its contract: the numbers, then the table and the list. Assumes nothing.
 use Prim.Native.Nat.{ℕ}
-use native.Mathlib.Omega.{arith}
 use lib.ListN.{length-replicate}
 use borrow.Author.Needs.{needs}
 use Rattle.defined.proofs.Judging.{zeros-at}
@@ -25,8 +24,7 @@ returns c =
     let named = c .before .before .before .before .before .before .before .before .before .before in
     let pre = named .before .before .before .before .before .before .before .pre in
     let names = named .name-lines .ensures in
-    let all = names .1 _ (judged-proper _ _ _ _ _ (pre .0)) (of-drawing _ _ _ _ _ (pre .0)) in
-    (
+    let all = names .1 _ (judged-proper _ _ _ _ _ (pre .0)) (of-drawing _ _ _ _ _ (pre .0)) in (
       table-left _ _ _ _ _ (pre .0) (pre .1) (pre .2) (pre .3) _ (names .0) all _ (c .before .before .before .before .before .before .before .fill-table .ensures),
       list-left _ _ _ _ _ (pre .0) (pre .1) (pre .2) (pre .3) (named .name-lines .last .1 .1 .1 .1 .0) (names .0) all _ (c .before .before .store-names .ensures),
     )
