@@ -14,5 +14,6 @@ pub mod Plain
 pub mod Rounds
 pub mod Alike
 pub mod Twins
+pub mod Kept
 pub mod Promise
 pub mod Determined

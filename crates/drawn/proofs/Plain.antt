@@ -8,12 +8,12 @@ use native.Mathlib.Omega.{arith}
 use native.Mathlib.Decide.{ℕ-discrete}
 use borrow.Author.Tests.{eqb-true, leb-true, le-leb}
 use lib.Dec.{leb, eqb}
-use lib.ListN.{getD}
+use lib.ListN.{getD, length}
 use Rattle.three.proofs.Lists.{by-test, every-at}
 use Rattle.circuit.proofs.Legality.{legal}
 use Rattle.circuit.specs.RulesInCode.{Passed, Legal}
 use Rattle.circuit.specs.declared.Counts.{Counts}
-use Rattle.circuit.specs.Table.{variables, top, ceilingTests, Kind, input, latch, literal, gate, kinds, rowTests}
+use Rattle.circuit.specs.Table.{variables, top, ceilingTests, tableLength, Kind, input, latch, literal, gate, kinds, rowTests}
 use Rattle.circuit.proofs.Refusals.{passed-refusal}
 use Rattle.text.specs.Outcome.{accepted, onward}
 use Rattle.text.specs.Text.{fits, owns, words, shownOwn, lineTests, Lines, readLines, header, countsOf, headerTests, Content, endingOf, readText}
@@ -123,6 +123,7 @@ pub record PlainDrawing (t : List ℕ) (c : Content) : Type 0 where
   pub most-same : drawn .most ≡ lines drawn
   pub due : (k : ℕ) → k < lines drawn → own drawn k ≡ 2 + 2 * k
   pub lawful : Legal (drawn .counts) (drawn .words)
+  pub whole : length (drawn .words) ≡ tableLength (drawn .counts)
   pub proper : Proper drawn
 
 pub plain-accepted : (t : List ℕ) {c : Content} → readText t ≡ accepted c → PlainDrawing t c
@@ -146,5 +147,6 @@ plain-accepted t {c} a =
       most-same = e;
       due = due;
       lawful = lawful;
+      whole = rw (counts-same, words-same) (describes t a .whole);
       proper = proper;
     }

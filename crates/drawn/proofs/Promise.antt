@@ -3,17 +3,17 @@
 use mathlib.Core.Path.{_≡_, refl, sym, ap, _∙_}
 use mathlib.Core.Bool.{Bool, true}
 use mathlib.Core.Logic.{_↔_}
-use mathlib.Core.List.{List, [], _∷_}
-use Prim.Native.Nat.{ℕ, zero, suc, _<_, max}
+use mathlib.Core.List.{List, [], _∷_, map}
+use Prim.Native.Nat.{ℕ, zero, suc, _<_, _≤_, max}
 use native.Mathlib.Omega.{arith}
 use lib.ListN.{length}
-use Rattle.three.specs.Lists.{every}
-use Rattle.three.proofs.Lists.{by-test}
+use Rattle.three.specs.Lists.{every, tabulate}
+use Rattle.three.proofs.Lists.{by-test, map-tabulate}
 use Rattle.text.specs.OutcomeInCode.{after}
 use Rattle.circuit.specs.RulesInCode.{Passed, Legal}
 use Rattle.circuit.specs.Refusal.{Test, _or_, refusal}
 use Rattle.circuit.specs.declared.Counts.{Counts}
-use Rattle.circuit.specs.Circuit.{next, lamps}
+use Rattle.circuit.specs.Circuit.{next, lamps, Latch, Circuit}
 use Rattle.circuit.specs.Table.{circuitOf}
 use Rattle.three.specs.Value.{boolean}
 use Rattle.circuit.proofs.Refusals.{Numbered, stops, past, none, passes, refusal-append, append-past}
@@ -21,7 +21,7 @@ use Rattle.text.specs.Outcome.{Outcome, accepted, refused, tested, onward}
 use Rattle.text.specs.Text.{ends, Lines, Content, readText}
 use Rattle.text.proofs.Outcomes.{refused-accepted, tested-stops}
 use Rattle.drawn.specs.Depth.{Source, gate, depth, deep}
-use Rattle.drawn.specs.Drawing.{Drawing, lines, leftSource, rightSource, gateOrder, once, allDefined, drawingTests, table}
+use Rattle.drawn.specs.Drawing.{Drawing, lines, leftSource, rightSource, gateOrder, once, allDefined, drawingTests, table, reset, renumbered}
 use Rattle.drawn.specs.Meaning.{Behaves, Follows, Looped}
 use Rattle.drawn.specs.Lines.{bodyOf, drawing, afterTests, readDrawing, readAny}
 use Rattle.drawn.proofs.Loops.{depth-gate}
@@ -32,6 +32,8 @@ use Rattle.drawn.proofs.Refused.{gives-22}
 use Rattle.drawn.proofs.Plain.{PlainDrawing, plain-accepted}
 use Rattle.drawn.proofs.Twins.{next-twins, lamps-twins}
 use Rattle.drawn.proofs.Reading.{accepted-sound, accepted-legal, drawing-lines}
+use Rattle.drawn.proofs.Tables.{drawnCircuit, table-circuit}
+use Rattle.drawn.proofs.Kept.{table-kept, list-kept}
 
 -- ---- an accepted text
 
@@ -54,6 +56,11 @@ module _ (t : List ℕ) (d : Drawing) (a : readAny t ≡ accepted d) where
   unfolding deep
   depth-is i h = let s = accepted-sound t a .proper .shallow i h in depth-gate (leftSource d) (rightSource d) (suc (d .counts .gates)) i (omega (arith, s))
 
+-- both start in the same states: latch i has the reset that its line gives it
+pub same-resets : (d : Drawing) → map (λ (l : Latch). l .reset) (circuitOf (d .counts) (table d) .latches) ≡ tabulate (d .counts .latches) (reset d)
+unfolding drawnCircuit
+same-resets d = ap (λ (c : Circuit). map (λ (l : Latch). l .reset) (c .latches)) (table-circuit d) ∙ map-tabulate (λ (l : Latch). l .reset) (d .counts .latches) _
+
 -- ---- a text that the plain reader accepts
 
 pub accepts-plain : (t : List ℕ) {c : Content} → readText t ≡ accepted c → PlainDrawing t c
@@ -73,6 +80,15 @@ module _ (t : List ℕ) (c : Content) (p : PlainDrawing t c) (r s : List Bool) w
           → (next boolean (circuitOf n (table (p .drawn))) r s ≡ next boolean (circuitOf n ws) r s) × (lamps boolean (circuitOf n (table (p .drawn))) r s ≡ lamps boolean (circuitOf n ws) r s)
           → (next boolean (circuitOf n′ (table (p .drawn))) r s ≡ next boolean (circuitOf n′ ws′) r s) × (lamps boolean (circuitOf n′ (table (p .drawn))) r s ≡ lamps boolean (circuitOf n′ ws′) r s)
       moved e f q = rw (← e, ← f) q
+
+-- where its gates stand by depth already, the table is the plain one, and every variable keeps its number
+module _ {t : List ℕ} {c : Content} (p : PlainDrawing t c)
+    (standing : (i k : ℕ) → i < k → k < p .drawn .counts .gates → deep (leftSource (p .drawn)) (rightSource (p .drawn)) (p .drawn .counts .gates) i ≤ deep (leftSource (p .drawn)) (rightSource (p .drawn)) (p .drawn .counts .gates) k) where
+  pub plain-kept : table (p .drawn) ≡ c .words
+  plain-kept = table-kept (p .drawn) (p .proper) standing (p .due) (p .lawful) (p .whole) ∙ p .words-same
+
+  pub names-kept : renumbered (p .drawn) ≡ tabulate (suc (lines (p .drawn))) (λ v. v)
+  names-kept = list-kept (p .drawn) (p .proper) standing (p .due) (p .most-same)
 
 -- ---- 22
 
