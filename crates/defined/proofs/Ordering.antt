@@ -6,7 +6,7 @@ use Prim.Native.Nat.{ℕ, _+_, _*_, _/_, _<_}
 use native.Mathlib.Omega.{arith}
 use lib.ListN.{length, getD}
 use Rattle.circuit.specs.declared.Counts.{Counts}
-use Rattle.circuit.specs.Table.{variables}
+use Rattle.circuit.specs.Table.{variables, gatesAt}
 use Rattle.drawn.specs.Drawing.{Drawing, leaves, lines, left, right, source, leftSource, rightSource}
 use Rattle.order.specs.Walk.{operand, Operands, Found}
 use Rattle.order.specs.Sort.{Depths, Ordered}
@@ -22,7 +22,7 @@ abbrev pub Sources : Counts → List ℕ → List ℕ → ℕ → ℕ → List �
 Sources c words places n at out = (d : Drawing) → leaves d ≡ n → Entered d (lines d) places → Sourced d words at (c .gates) out
 
 module _ (c : Counts) (words places : List ℕ) (n : ℕ) (few : c .inputs + c .latches ≡ n) (xs ys : List ℕ)
-    (lefts : Sources c words places n (2 * c .latches + c .lamps) xs) (rights : Sources c words places n (2 * c .latches + c .lamps + 1) ys) where
+    (lefts : Sources c words places n (gatesAt c) xs) (rights : Sources c words places n (gatesAt c + 1) ys) where
   pub operands : Spoken c words → SomeEntered c words places → length xs ≡ 4096 → length ys ≡ 4096 → Operands xs ys (c .gates)
   operands s (most, owns, e) a b =
       let l = lefts (held most c owns words) few e in
@@ -44,7 +44,7 @@ module _ (c : Counts) (words places : List ℕ) (n : ℕ) (few : c .inputs + c .
 
     right-same : (i : ℕ) → i < c .gates → operand ys i ≡ rightSource d i
     right-same i h =
-        let z : 2 * c .latches + c .lamps + 1 + 2 * i ≡ 2 * c .latches + c .lamps + 2 * i + 1 = omega arith in
+        let z : gatesAt c + 1 + 2 * i ≡ gatesAt c + 2 * i + 1 = omega arith in
         rights d few e .same i h ∙ ap (λ (k : ℕ). source d (getD words k 0 / 2)) z
 
     pub loops-judged : {r : Bool} {depths : List ℕ} (order : List ℕ) → Found xs ys (c .gates) r depths → r ≡ false → Judged d false order

@@ -8,7 +8,7 @@ use Rattle.three.specs.Lists.{tabulate}
 use Rattle.three.proofs.Lists.{length-tabulate, getD-tabulate, tabulate-ext}
 use Rattle.circuit.specs.RulesInCode.{Bounded, Legal}
 use Rattle.circuit.specs.Circuit.{Circuit, Latch, Gate}
-use Rattle.circuit.specs.Table.{top, tableLength, circuitOf}
+use Rattle.circuit.specs.Table.{top, tableLength, circuitOf, literalsAt, gatesAt}
 use Rattle.drawn.specs.Numbers.{pairs}
 use Rattle.drawn.specs.Drawing.{Drawing, leaves, nextLiteral, reset, lamp, left, right, gateAt, name, rename, table}
 use Rattle.drawn.proofs.Sorting.{getD-behind}
@@ -86,22 +86,22 @@ module _ (d : Drawing) where
   unfolding table
   table-reset i h = first-part latchWords lampWords gateWords (2 * i + 1) (omega (arith, latch-words)) ∙ pairs-right (d .counts .latches) _ _ i h
 
-  pub table-lamp : (i : ℕ) → i < d .counts .lamps → getD (table d) (2 * d .counts .latches + i) 0 ≡ rename d (lamp d i)
+  pub table-lamp : (i : ℕ) → i < d .counts .lamps → getD (table d) (literalsAt (d .counts) + i) 0 ≡ rename d (lamp d i)
   unfolding table
   table-lamp i h =
-      second-part latchWords lampWords gateWords (2 * d .counts .latches + i) i (omega (arith, latch-words)) (omega (arith, lamp-words, h))
+      second-part latchWords lampWords gateWords (literalsAt (d .counts) + i) i (omega (arith, latch-words)) (omega (arith, lamp-words, h))
       ∙ getD-tabulate (d .counts .lamps) _ i 0 h
 
-  pub table-left : (i : ℕ) → i < d .counts .gates → getD (table d) (2 * d .counts .latches + d .counts .lamps + 2 * i) 0 ≡ rename d (left d (gateAt d i))
+  pub table-left : (i : ℕ) → i < d .counts .gates → getD (table d) (gatesAt (d .counts) + 2 * i) 0 ≡ rename d (left d (gateAt d i))
   unfolding table
   table-left i h =
-      third-part latchWords lampWords gateWords (2 * d .counts .latches + d .counts .lamps + 2 * i) (2 * i) (omega (arith, latch-words, lamp-words))
+      third-part latchWords lampWords gateWords (gatesAt (d .counts) + 2 * i) (2 * i) (omega (arith, latch-words, lamp-words))
       ∙ pairs-left (d .counts .gates) _ _ i h
 
-  pub table-right : (i : ℕ) → i < d .counts .gates → getD (table d) (2 * d .counts .latches + d .counts .lamps + 2 * i + 1) 0 ≡ rename d (right d (gateAt d i))
+  pub table-right : (i : ℕ) → i < d .counts .gates → getD (table d) (gatesAt (d .counts) + 2 * i + 1) 0 ≡ rename d (right d (gateAt d i))
   unfolding table
   table-right i h =
-      third-part latchWords lampWords gateWords (2 * d .counts .latches + d .counts .lamps + 2 * i + 1) (2 * i + 1) (omega (arith, latch-words, lamp-words))
+      third-part latchWords lampWords gateWords (gatesAt (d .counts) + 2 * i + 1) (2 * i + 1) (omega (arith, latch-words, lamp-words))
       ∙ pairs-right (d .counts .gates) _ _ i h
 
   -- ---- the circuit

@@ -7,7 +7,7 @@ use lib.ListN.{getD}
 use Rattle.three.specs.Lists.{tabulate, every}
 use Rattle.circuit.specs.declared.Counts.{Counts}
 use Rattle.circuit.specs.Refusal.{Test, _or_}
-use Rattle.circuit.specs.Table.{variables}
+use Rattle.circuit.specs.Table.{variables, literalsAt, gatesAt, literals}
 use Rattle.drawn.specs.Numbers.{first, pairs}
 use Rattle.drawn.specs.Depth.{Source, leaf, gate, loopless, order}
 
@@ -39,13 +39,13 @@ module _ (d : Drawing) where
   reset i = getD (d .words) (2 * i + 1) 0
 
   abbrev pub lamp : ℕ → ℕ
-  lamp i = getD (d .words) (2 * d .counts .latches + i) 0
+  lamp i = getD (d .words) (literalsAt (d .counts) + i) 0
 
   abbrev pub left : ℕ → ℕ
-  left i = getD (d .words) (2 * d .counts .latches + d .counts .lamps + 2 * i) 0
+  left i = getD (d .words) (gatesAt (d .counts) + 2 * i) 0
 
   abbrev pub right : ℕ → ℕ
-  right i = getD (d .words) (2 * d .counts .latches + d .counts .lamps + 2 * i + 1) 0
+  right i = getD (d .words) (gatesAt (d .counts) + 2 * i + 1) 0
 
   -- ---- the gates
 
@@ -82,7 +82,7 @@ module _ (d : Drawing) where
   unfoldable pub allDefined : Bool
   allDefined =
       every (d .counts .latches) (λ i. defined (nextLiteral i))
-      && (every (d .counts .lamps) (λ i. defined (lamp i))
+      && (every (literals (d .counts)) (λ i. defined (lamp i))
       && (every (d .counts .gates) (λ i. defined (left i)) && every (d .counts .gates) (λ i. defined (right i))))
 
   unfoldable pub drawingTests : List Test
@@ -114,5 +114,5 @@ module _ (d : Drawing) where
   unfoldable pub table : List ℕ
   table =
       pairs (d .counts .latches) (λ i. rename (nextLiteral i)) reset
-      ++ (tabulate (d .counts .lamps) (λ i. rename (lamp i))
+      ++ (tabulate (literals (d .counts)) (λ i. rename (lamp i))
       ++ pairs (d .counts .gates) (λ p. rename (left (gateAt p))) (λ p. rename (right (gateAt p))))

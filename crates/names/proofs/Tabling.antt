@@ -10,7 +10,7 @@ use Rattle.three.specs.Lists.{tabulate, over}
 use Rattle.three.proofs.Lists.{tabulate-ext, length-tabulate, getD-tabulate}
 use Rattle.three.proofs.Loops.{Stored, stored-next, stored-last, over-paste}
 use Rattle.circuit.specs.declared.Counts.{Counts}
-use Rattle.circuit.specs.Table.{tableLength}
+use Rattle.circuit.specs.Table.{tableLength, literalsAt, gatesAt}
 use Rattle.drawn.proofs.Tables.{length-pairs, pairs-left, pairs-right, first-part, second-part, third-part}
 use Rattle.drawn.specs.Numbers.{pairs}
 use Rattle.drawn.specs.Drawing.{Drawing, nextLiteral, lamp, left, right, reset, gateAt, name, rename, table}
@@ -53,12 +53,12 @@ module _ (c : Counts) (words names order : List ℕ) where
   latchPart = pairs (c .latches) (λ i. renamedBy names (getD words (2 * i) 0)) (λ i. getD words (2 * i + 1) 0)
 
   abbrev lampPart : List ℕ
-  lampPart = tabulate (c .lamps) (λ i. renamedBy names (getD words (2 * c .latches + i) 0))
+  lampPart = tabulate (c .lamps) (λ i. renamedBy names (getD words (literalsAt c + i) 0))
 
   abbrev gatePart : List ℕ
-  gatePart = pairs (c .gates) (λ q. renamedBy names (getD words (2 * c .latches + c .lamps + 2 * getD order q 0) 0)) (λ q. renamedBy names (getD words (2 * c .latches + c .lamps + 2 * getD order q 0 + 1) 0))
+  gatePart = pairs (c .gates) (λ q. renamedBy names (getD words (gatesAt c + 2 * getD order q 0) 0)) (λ q. renamedBy names (getD words (gatesAt c + 2 * getD order q 0 + 1) 0))
 
-  latch-long : length latchPart ≡ 2 * c .latches
+  latch-long : length latchPart ≡ literalsAt c
   latch-long = length-pairs (c .latches) _ _
 
   lamp-long : length lampPart ≡ c .lamps
@@ -71,43 +71,43 @@ module _ (c : Counts) (words names order : List ℕ) where
   unfolding tableBy
   table-long = omega (arith, length-append latchPart (lampPart ++ gatePart), length-append lampPart gatePart, latch-long, lamp-long, gate-long)
 
-  pub word-reset : (k : ℕ) → k < 2 * c .latches → k % 2 ≡ 1 → getD words k 0 ≡ getD (tableBy c words names order) k 0
+  pub word-reset : (k : ℕ) → k < literalsAt c → k % 2 ≡ 1 → getD words k 0 ≡ getD (tableBy c words names order) k 0
   unfolding tableBy
   word-reset k h odd =
       let e : 2 * (k / 2) + 1 ≡ k = omega arith in
       sym (first-part latchPart lampPart gatePart k (omega (arith, latch-long)) ∙ ap (λ (n : ℕ). getD latchPart n 0) (sym e) ∙ pairs-right (c .latches) _ _ (k / 2) (omega arith) ∙ ap (λ (n : ℕ). getD words n 0) e)
 
-  pub word-next : (k : ℕ) → k < 2 * c .latches → (k % 2 ≡ 1 → ⊥) → renamedBy names (getD words k 0) ≡ getD (tableBy c words names order) k 0
+  pub word-next : (k : ℕ) → k < literalsAt c → (k % 2 ≡ 1 → ⊥) → renamedBy names (getD words k 0) ≡ getD (tableBy c words names order) k 0
   unfolding tableBy
   word-next k h even =
       let e : 2 * (k / 2) ≡ k = omega arith in
       sym (first-part latchPart lampPart gatePart k (omega (arith, latch-long)) ∙ ap (λ (n : ℕ). getD latchPart n 0) (sym e) ∙ pairs-left (c .latches) _ _ (k / 2) (omega arith) ∙ ap (λ (n : ℕ). renamedBy names (getD words n 0)) e)
 
-  pub word-lamp : (k : ℕ) → 2 * c .latches ≤ k → k < 2 * c .latches + c .lamps → renamedBy names (getD words k 0) ≡ getD (tableBy c words names order) k 0
+  pub word-lamp : (k : ℕ) → literalsAt c ≤ k → k < gatesAt c → renamedBy names (getD words k 0) ≡ getD (tableBy c words names order) k 0
   unfolding tableBy
   word-lamp k l h =
-      let e : 2 * c .latches + (k - 2 * c .latches) ≡ k = omega arith in
-      sym (second-part latchPart lampPart gatePart k (k - 2 * c .latches) (omega (arith, latch-long)) (omega (arith, lamp-long)) ∙ getD-tabulate (c .lamps) _ (k - 2 * c .latches) 0 (omega arith) ∙ ap (λ (n : ℕ). renamedBy names (getD words n 0)) e)
+      let e : literalsAt c + (k - literalsAt c) ≡ k = omega arith in
+      sym (second-part latchPart lampPart gatePart k (k - literalsAt c) (omega (arith, latch-long)) (omega (arith, lamp-long)) ∙ getD-tabulate (c .lamps) _ (k - literalsAt c) 0 (omega arith) ∙ ap (λ (n : ℕ). renamedBy names (getD words n 0)) e)
 
-  pub word-gate : (k i : ℕ) → 2 * c .latches + c .lamps ≤ k → k < tableLength c → i ≡ getD order ((k - (2 * c .latches + c .lamps)) / 2) 0
-      → renamedBy names (getD words (2 * c .latches + c .lamps + 2 * i + (k - (2 * c .latches + c .lamps)) % 2) 0) ≡ getD (tableBy c words names order) k 0
+  pub word-gate : (k i : ℕ) → gatesAt c ≤ k → k < tableLength c → i ≡ getD order ((k - (gatesAt c)) / 2) 0
+      → renamedBy names (getD words (gatesAt c + 2 * i + (k - (gatesAt c)) % 2) 0) ≡ getD (tableBy c words names order) k 0
   unfolding tableBy
-  word-gate k i l h is = sym (third-part latchPart lampPart gatePart k (k - (2 * c .latches + c .lamps)) (omega (arith, latch-long, lamp-long)) ∙ go (ℕ-discrete ((k - (2 * c .latches + c .lamps)) % 2) 0))
+  word-gate k i l h is = sym (third-part latchPart lampPart gatePart k (k - (gatesAt c)) (omega (arith, latch-long, lamp-long)) ∙ go (ℕ-discrete ((k - (gatesAt c)) % 2) 0))
     where
-      go : Dec ((k - (2 * c .latches + c .lamps)) % 2 ≡ 0) → getD gatePart (k - (2 * c .latches + c .lamps)) 0 ≡ renamedBy names (getD words (2 * c .latches + c .lamps + 2 * i + (k - (2 * c .latches + c .lamps)) % 2) 0)
+      go : Dec ((k - (gatesAt c)) % 2 ≡ 0) → getD gatePart (k - (gatesAt c)) 0 ≡ renamedBy names (getD words (gatesAt c + 2 * i + (k - (gatesAt c)) % 2) 0)
       go (yes z) =
-          let e : 2 * ((k - (2 * c .latches + c .lamps)) / 2) ≡ k - (2 * c .latches + c .lamps) = omega (arith, z) in
-          ap (λ (n : ℕ). getD gatePart n 0) (sym e) ∙ pairs-left (c .gates) _ _ ((k - (2 * c .latches + c .lamps)) / 2) (omega arith)
+          let e : 2 * ((k - (gatesAt c)) / 2) ≡ k - (gatesAt c) = omega (arith, z) in
+          ap (λ (n : ℕ). getD gatePart n 0) (sym e) ∙ pairs-left (c .gates) _ _ ((k - (gatesAt c)) / 2) (omega arith)
           ∙ ap (λ (n : ℕ). renamedBy names (getD words n 0)) (omega (arith, is, z))
       go (no z) =
-          let e : 2 * ((k - (2 * c .latches + c .lamps)) / 2) + 1 ≡ k - (2 * c .latches + c .lamps) = omega (arith, z) in
-          ap (λ (n : ℕ). getD gatePart n 0) (sym e) ∙ pairs-right (c .gates) _ _ ((k - (2 * c .latches + c .lamps)) / 2) (omega arith)
+          let e : 2 * ((k - (gatesAt c)) / 2) + 1 ≡ k - (gatesAt c) = omega (arith, z) in
+          ap (λ (n : ℕ). getD gatePart n 0) (sym e) ∙ pairs-right (c .gates) _ _ ((k - (gatesAt c)) / 2) (omega arith)
           ∙ ap (λ (n : ℕ). renamedBy names (getD words n 0)) (omega (arith, is, z))
 
   -- the word of a gate's operand is one of the words
-  pub gate-word : Tabled c words names order → (k i : ℕ) → 2 * c .latches + c .lamps ≤ k → k < tableLength c → i ≡ getD order ((k - (2 * c .latches + c .lamps)) / 2) 0
-      → 2 * c .latches + c .lamps + 2 * i + (k - (2 * c .latches + c .lamps)) % 2 < tableLength c
-  gate-word t k i l h is = omega (arith, is, t .gates ((k - (2 * c .latches + c .lamps)) / 2) (omega arith))
+  pub gate-word : Tabled c words names order → (k i : ℕ) → gatesAt c ≤ k → k < tableLength c → i ≡ getD order ((k - (gatesAt c)) / 2) 0
+      → gatesAt c + 2 * i + (k - (gatesAt c)) % 2 < tableLength c
+  gate-word t k i l h is = omega (arith, is, t .gates ((k - (gatesAt c)) / 2) (omega arith))
 
 -- ---- the loop that stores the words from the front
 
