@@ -1,4 +1,5 @@
 // The C interface (include/chudravik.h): each public call under its C name, with the same contract, and nothing else.
+use anyorder::ReadAnyAnswer;
 use circuit::Counts;
 use cubes::RunAnswer;
 use reader::ReadAnswer;
@@ -6,6 +7,7 @@ use sent::CoverAnswer;
 use writer::WriteAnswer;
 ghost use Rattle.tick.specs.Tick.{Ticked};
 ghost use Rattle.text.specs.Calls.{Reading, Writing};
+ghost use Rattle.drawn.specs.Lines.{ReadingAny};
 ghost use Rattle.cubes.specs.Call.{Runs};
 ghost use Rattle.cubes.specs.Promise.{Promises};
 ghost use Rattle.sent.specs.Call.{Sent};
@@ -16,6 +18,17 @@ pub extern "C" fn chudravik_read(text: &[u8], table: &mut [u16]) -> ReadAnswer
     ensures { λ r. ⌜ Reading (now (text .entry)) (now (table .entry)) (r .number) (r .counts) (now (table .exit)) ⌝ }
 {
     reader::read(text, table)
+}
+
+#[no_mangle]
+pub extern "C" fn chudravik_read_any(
+    text: &[u8],
+    table: &mut [u16],
+    renumbered: &mut [u16],
+) -> ReadAnyAnswer
+    ensures { λ r. ⌜ ReadingAny (now (text .entry)) (now (table .entry)) (now (renumbered .entry)) (r .number) (r .counts) (r .variables) (now (table .exit)) (now (renumbered .exit)) ⌝ }
+{
+    anyorder::read_any(text, table, renumbered)
 }
 
 #[no_mangle]
