@@ -35,6 +35,16 @@ static int reads(chudravik_counts *counts)
            counts->gates == 1;
 }
 
+static int reads_any(chudravik_counts counts)
+{
+    static uint16_t renumbered[CHUDRAVIK_MOST_LIST_WORDS], same[CHUDRAVIK_MOST_TABLE_WORDS];
+    chudravik_read_any_answer read = chudravik_read_any((const uint8_t *)text, sizeof text - 1, same,
+                                                        CHUDRAVIK_MOST_TABLE_WORDS, renumbered, CHUDRAVIK_MOST_LIST_WORDS);
+    return read.number == CHUDRAVIK_ACCEPTED && read.counts.gates == counts.gates && read.variables == 3 &&
+           renumbered[3] == 3 && memcmp(same, table, sizeof table) == 0 && CHUDRAVIK_DEFINITION == 20 &&
+           CHUDRAVIK_UNDEFINED == 21 && CHUDRAVIK_LOOP == 22;
+}
+
 static int writes_back(chudravik_counts counts)
 {
     size_t words = CHUDRAVIK_TABLE_WORDS(counts.latches, counts.lamps, counts.gates);
@@ -77,8 +87,8 @@ static int covers(chudravik_counts counts)
 int main(void)
 {
     chudravik_counts counts;
-    if (!version_agrees() || !reads(&counts) || !writes_back(counts) || !ticks(counts) || !runs(counts) ||
-        !covers(counts)) {
+    if (!version_agrees() || !reads(&counts) || !reads_any(counts) || !writes_back(counts) || !ticks(counts) ||
+        !runs(counts) || !covers(counts)) {
         fputs("header: not as it must be\n", stderr);
         return 1;
     }

@@ -6,7 +6,7 @@
  * A buffer is a pointer and a length: in bytes, and for a table in 16-bit words. Nothing beyond a buffer's length is
  * read or written, and no call allocates, keeps a pointer, or touches anything else. A buffer of length 0 may be a null
  * pointer. A call takes at most CHUDRAVIK_MOST_STACK bytes of stack, whatever it is given, unless it says otherwise
- * below. (Null pointers and stack are tested, not proved.)
+ * below (chudravik_read_any). (Null pointers and stack are tested, not proved.)
  *
  * Calls are safe in parallel, from any threads: they share nothing. Calls that run at the same time may be given the
  * same buffer; one that a call fills is that call's alone while it runs.
@@ -35,8 +35,8 @@ extern "C" {
  * answered as it was: a call, a struct, a number, a ceiling or a rule is another. The second changes when something is
  * added, and programs that do not use it stay as they are. The third changes when neither does: every call gives the
  * answers that it gave. The number is 10,000 x first + 100 x second + third. */
-#define CHUDRAVIK_VERSION 20000
-#define CHUDRAVIK_VERSION_STRING "2.0.0"
+#define CHUDRAVIK_VERSION 20100
+#define CHUDRAVIK_VERSION_STRING "2.1.0"
 
 /* ---- ceilings ---- */
 
@@ -44,12 +44,13 @@ extern "C" {
 #define CHUDRAVIK_MOST_LATCHES 512
 #define CHUDRAVIK_MOST_LAMPS 64
 #define CHUDRAVIK_MOST_GATES 3327
-#define CHUDRAVIK_MOST_VARIABLES 4095    /* inputs + latches + gates */
+#define CHUDRAVIK_MOST_VARIABLES 4095    /* inputs + latches + gates; and M of a text in any order */
 #define CHUDRAVIK_MOST_TEXT 60000        /* bytes of a text that is read */
 #define CHUDRAVIK_MOST_WRITTEN 58415     /* bytes of a text that is written: no circuit needs more */
 #define CHUDRAVIK_MOST_INTERVAL 1000     /* w */
 #define CHUDRAVIK_MOST_CUBE_BYTES 65536  /* the cube buffer */
 #define CHUDRAVIK_MOST_STACK 3072
+#define CHUDRAVIK_MOST_ANY_STACK 98304   /* chudravik_read_any keeps all lines until it can order them */
 
 /* ---- lengths ---- */
 
@@ -62,6 +63,10 @@ extern "C" {
 
 /* The table of any circuit fits in this many words. */
 #define CHUDRAVIK_MOST_TABLE_WORDS CHUDRAVIK_TABLE_WORDS(CHUDRAVIK_MOST_LATCHES, CHUDRAVIK_MOST_LAMPS, CHUDRAVIK_MOST_GATES)
+
+/* The list that chudravik_read_any fills has a word for each variable of the text and one for the constant, so this many
+ * are enough for any text. */
+#define CHUDRAVIK_MOST_LIST_WORDS (CHUDRAVIK_MOST_VARIABLES + 1)
 
 /* Bytes of a record: two bits a field, field 0 in the most significant bits of byte 0; 00 unknown (X), 01 known 0,
  * 10 known 1, 11 never. Leftover bits are 0. A state has a field for each latch, a switch setting for each input, a
@@ -102,6 +107,9 @@ extern "C" {
 #define CHUDRAVIK_NO_LAMPS 16           /* no lamps, so nothing that a run could judge */
 #define CHUDRAVIK_START_NOT_COVERED 17  /* the start lies inside none of the given cubes */
 #define CHUDRAVIK_NEXT_NOT_COVERED 18   /* the next state of a given cube lies inside none of them */
+#define CHUDRAVIK_DEFINITION 20         /* a variable defined twice, or an own literal odd, below 2 or above 2M + 1 */
+#define CHUDRAVIK_UNDEFINED 21          /* a literal whose variable no line defines */
+#define CHUDRAVIK_LOOP 22               /* gates in a loop */
 
 /* Where several apply, the first in the order named at the call is given. A refusal answers zeros beside its number and
  * changes no buffer, save 15 (chudravik_run); 18 names a cube (chudravik_cover). */
@@ -120,6 +128,12 @@ typedef struct {
     uint32_t number;
     chudravik_counts counts; /* of the circuit read; zeros with a refusal */
 } chudravik_read_answer;
+
+typedef struct {
+    uint32_t number;
+    chudravik_counts counts; /* of the circuit read; zeros with a refusal */
+    size_t variables;        /* M: the list has words 0 to M; 0 with a refusal */
+} chudravik_read_any_answer;
 
 typedef struct {
     uint32_t number;
@@ -157,6 +171,10 @@ CHUDRAVIK_IS(place_of_gates, offsetof(chudravik_counts, gates), 24);
 CHUDRAVIK_IS(size_of_read_answer, sizeof(chudravik_read_answer), 40);
 CHUDRAVIK_IS(place_of_read_number, offsetof(chudravik_read_answer, number), 0);
 CHUDRAVIK_IS(place_of_counts, offsetof(chudravik_read_answer, counts), 8);
+CHUDRAVIK_IS(size_of_read_any_answer, sizeof(chudravik_read_any_answer), 48);
+CHUDRAVIK_IS(place_of_read_any_number, offsetof(chudravik_read_any_answer, number), 0);
+CHUDRAVIK_IS(place_of_read_any_counts, offsetof(chudravik_read_any_answer, counts), 8);
+CHUDRAVIK_IS(place_of_variables, offsetof(chudravik_read_any_answer, variables), 40);
 CHUDRAVIK_IS(size_of_write_answer, sizeof(chudravik_write_answer), 16);
 CHUDRAVIK_IS(place_of_write_number, offsetof(chudravik_write_answer, number), 0);
 CHUDRAVIK_IS(place_of_bytes, offsetof(chudravik_write_answer, bytes), 8);
@@ -176,6 +194,18 @@ CHUDRAVIK_IS(place_of_cube, offsetof(chudravik_cover_answer, cube), 8);
  * Refusals: 1, 2, 3, then line by line (4, 5, 6, then 7 or 8), 9, and 10 where the table is shorter than
  * CHUDRAVIK_TABLE_WORDS of the circuit. Words beyond that many stay as they were. */
 chudravik_read_answer chudravik_read(const uint8_t *text, size_t text_bytes, uint16_t *table, size_t table_words);
+
+/* Reads a circuit from a text whose definitions stand in any order, with unused numbers: M is at most 4,095 and at least
+ * I + L + A, an own literal is any even literal from 2 to 2M, and an operand may be defined further down. Into the table
+ * go the inputs and latches in the text's order, then the gates by depth (0 for a constant, an input or a latch, and for
+ * a gate one more than its deeper operand), those of equal depth in the text's order, operands in the order written. Word
+ * v of renumbered is the new number of variable v of the text, and 0 for v = 0 and where no line defines it.
+ * For any switches and any state the table's lamps and next state are those of the text.
+ * Refusals: 1, 2, 3, then line by line (4, 6, 8), then 20, 21, 22, then 9, and 10 where the table is shorter than
+ * CHUDRAVIK_TABLE_WORDS of the circuit or the list than M + 1. 5 and 7 are never given. Words beyond stay as they were.
+ * The work is linear in the text and the gates, whatever the order. */
+chudravik_read_any_answer chudravik_read_any(const uint8_t *text, size_t text_bytes, uint16_t *table, size_t table_words,
+                                             uint16_t *renumbered, size_t renumbered_words);
 
 /* Writes the text of a circuit to the front of a buffer. Reading it gives the same counts and words back.
  * Refusals: 3, 10 for the table, 11, 10 where the buffer is shorter than the text. CHUDRAVIK_MOST_WRITTEN bytes are
