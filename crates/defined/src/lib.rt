@@ -88,8 +88,8 @@ pub fn all_defined(counts: Counts, words: &[u16], places: &[u16; 4096]) -> bool
     requires { ⌜ Spoken counts (now words) ⌝ }
     ensures { λ r. ⌜ ((most : ℕ) (owns : List ℕ) → Entered (held most counts owns (now (words .entry))) (variables counts) (now (places .entry)) → r ≡ allDefined (held most counts owns (now (words .entry)))) ⌝ }
 {
-    let lamps = 2 * counts.latches;
-    let gates = lamps + counts.lamps;
+    let lamps = circuit::literals_at(counts);
+    let gates = circuit::gates_at(counts);
     if !all_known(words, 0, 2, counts.latches, places) {
         return false;
     }
@@ -141,7 +141,7 @@ pub fn order_drawing(
     requires { ⌜ Spoken counts (now words) × SomeEntered counts (now words) (now places) × (length (now order) ≡ 4096) ⌝ }
     ensures { λ r. ⌜ ((most : ℕ) (owns : List ℕ) → Entered (held most counts owns (now (words .entry))) (variables counts) (now (places .entry)) → Judged (held most counts owns (now (words .entry))) r (now (order .exit))) ⌝ }
 {
-    let gates = 2 * counts.latches + counts.lamps;
+    let gates = circuit::gates_at(counts);
     let leaves = (counts.inputs + counts.latches) as u16;
     let mut left = [0u16; 4096];
     let mut right = [0u16; 4096];

@@ -10,7 +10,8 @@ use lib.Dec.{ltb, eqb}
 use lib.ListN.{length}
 use Rattle.three.proofs.Lists.{by-test}
 use Rattle.drawn.specs.Numbers.{first}
-use Rattle.drawn.specs.Depth.{Source, leaf, gate, Reads, deep, order}
+use Rattle.drawn.specs.Depth.{Source, leaf, gate, deep, order}
+use Rattle.drawn.specs.DepthInCode.{Reads}
 use Rattle.drawn.specs.Drawing.{Drawing, leaves, lines, own, left, right, source, leftSource, rightSource, gateOrder, gateAt, lineAt, place, name}
 use Rattle.drawn.proofs.Searching.{first-holds, first-only}
 use Rattle.drawn.proofs.Sorting.{Before, ranked-apart, Sorted, sorts}

@@ -9,7 +9,8 @@ use Rattle.three.specs.Lists.{every}
 use Rattle.three.proofs.Lists.{by-test}
 use Rattle.circuit.specs.Refusal.{_or_, refusal}
 use Rattle.circuit.proofs.Refusals.{stops, past, none}
-use Rattle.drawn.specs.Depth.{Source, gate, Reads, Path, one, more, loopless}
+use Rattle.drawn.specs.Depth.{Source, gate, loopless}
+use Rattle.drawn.specs.DepthInCode.{Reads, Path, one, more}
 use Rattle.drawn.specs.Drawing.{Drawing, lines, own, left, right, source, leftSource, rightSource, once, allDefined, drawingTests}
 use Rattle.drawn.specs.Meaning.{Uses, Leads, uses, through, Looped}
 use Rattle.drawn.proofs.Loops.{loop-refused, refused-loop}

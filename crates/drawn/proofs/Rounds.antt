@@ -10,7 +10,8 @@ use lib.Dec.{leb, eqb}
 use lib.ListN.{length, getD}
 use Rattle.three.proofs.Lists.{by-test, iff, and-parts}
 use Rattle.drawn.specs.Numbers.{pick, byKey}
-use Rattle.drawn.specs.Depth.{Source, leaf, gate, depth, deep, order, among, numbered, round, rounds}
+use Rattle.drawn.specs.Depth.{Source, leaf, gate, depth, deep, order}
+use Rattle.drawn.specs.DepthInCode.{among, numbered, round, rounds}
 use Rattle.drawn.proofs.Loops.{depth-gate, depth-leaf}
 use Rattle.drawn.proofs.Sorting.{Stands, sorted-items, sorted-stands}
 

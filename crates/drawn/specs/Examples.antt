@@ -8,7 +8,8 @@ use Rattle.text.specs.Outcome.{Outcome, accepted, refused, onward, further}
 use Rattle.text.specs.Text.{shownOwn}
 use Rattle.text.specs.Bench.{bytes, outcomeOf}
 use Rattle.drawn.specs.Numbers.{first, pick, byKey, pairs}
-use Rattle.drawn.specs.Depth.{depth, deep, loopless, order, numbered}
+use Rattle.drawn.specs.Depth.{depth, deep, loopless, order}
+use Rattle.drawn.specs.DepthInCode.{numbered}
 use Rattle.drawn.specs.Drawing.{gateOf, source, gateOrder, once, defined, allDefined, drawingTests, lineAt, place, name, renumbered, rename, table}
 use Rattle.drawn.specs.Lines.{literalTests, anyTests, anyHeaderTests, afterTests, readDrawing, readAnyEnded, readAny}
 

@@ -1,5 +1,5 @@
 -- Laws of the table as it is filled: word by word, and that it is the drawing's table. Assumes nothing.
-use mathlib.Core.Path.{_≡_, refl, sym, ap, ap₂, _∙_}
+use mathlib.Core.Path.{_≡_, refl, sym, ap, ap₂, _∙_, subst}
 use mathlib.Core.List.{List, _++_}
 use Prim.Native.Nat.{ℕ, zero, suc, _+_, _*_, _-_, _/_, _%_, _<_, _≤_}
 use native.Mathlib.Omega.{arith}
@@ -108,6 +108,14 @@ module _ (c : Counts) (words names order : List ℕ) where
   pub gate-word : Tabled c words names order → (k i : ℕ) → gatesAt c ≤ k → k < tableLength c → i ≡ getD order ((k - (gatesAt c)) / 2) 0
       → gatesAt c + 2 * i + (k - (gatesAt c)) % 2 < tableLength c
   gate-word t k i l h is = omega (arith, is, t .gates ((k - (gatesAt c)) / 2) (omega arith))
+
+  -- the same where the code has the place of the first gate as a number
+  module _ (g : ℕ) (e : g ≡ gatesAt c) (k i : ℕ) (l : g ≤ k) (h : k < tableLength c) (is : i ≡ getD order ((k - g) / 2) 0) where
+    pub gate-at : renamedBy names (getD words (g + 2 * i + (k - g) % 2) 0) ≡ getD (tableBy c words names order) k 0
+    gate-at = subst (λ g. g ≤ k → i ≡ getD order ((k - g) / 2) 0 → renamedBy names (getD words (g + 2 * i + (k - g) % 2) 0) ≡ getD (tableBy c words names order) k 0) (sym e) (λ l is. word-gate k i l h is) l is
+
+    pub gate-within : Tabled c words names order → g + 2 * i + (k - g) % 2 < tableLength c
+    gate-within t = subst (λ g. g ≤ k → i ≡ getD order ((k - g) / 2) 0 → g + 2 * i + (k - g) % 2 < tableLength c) (sym e) (λ l is. gate-word t k i l h is) l is
 
 -- ---- the loop that stores the words from the front
 

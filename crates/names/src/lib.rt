@@ -54,8 +54,8 @@ fn word_at(counts: Counts, words: &[u16], names: &[u16; 4096], order: &[u16; 409
     requires { ⌜ Tabled counts (now words) (now names) (now order) × (k < tableLength counts) ⌝ }
     ensures { λ r. ⌜ r ≡ getD (tableBy counts (now (words .entry)) (now (names .entry)) (now (order .entry))) k 0 ⌝ }
 {
-    let lamps = 2 * counts.latches;
-    let gates = lamps + counts.lamps;
+    let lamps = circuit::literals_at(counts);
+    let gates = circuit::gates_at(counts);
     if k < lamps {
         if k % 2 == 1 {
             return words[k];

@@ -12,7 +12,8 @@ use lib.Dec.{leb, eqb, eqb·suc-zero}
 use lib.ListN.{length, getD, set, length-set}
 use lib.Seq.{getD-set-same, getD-set-other}
 use Rattle.three.proofs.Lists.{by-test, every-at}
-use Rattle.drawn.specs.Depth.{leaf, gate, depth, Reads, deep, loopless}
+use Rattle.drawn.specs.Depth.{leaf, gate, depth, deep, loopless}
+use Rattle.drawn.specs.DepthInCode.{Reads}
 use Rattle.drawn.proofs.Loops.{steady, path-lower, Walk, walk-loops, loop-refused, refused-loop}
 use Rattle.order.specs.Walk.{sourceOf, operand, depthAt, waiting, blank, blanks, Blank, Operands, Whole, Walking, Last, toDo, Turned, Found}
 

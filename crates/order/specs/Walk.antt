@@ -4,7 +4,8 @@ use mathlib.Core.Bool.{Bool, true, false}
 use mathlib.Core.List.{List}
 use Prim.Native.Nat.{ℕ, zero, suc, _+_, _*_, _-_, _<_, _≤_}
 use lib.ListN.{length, getD}
-use Rattle.drawn.specs.Depth.{Source, leaf, gate, depth, Reads, deep, loopless}
+use Rattle.drawn.specs.Depth.{Source, leaf, gate, depth, deep, loopless}
+use Rattle.drawn.specs.DepthInCode.{Reads}
 
 -- an operand in the arrays: 0 for a leaf, 1 + i for gate i
 unfoldable pub sourceOf : ℕ → Source
