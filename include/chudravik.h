@@ -35,8 +35,8 @@ extern "C" {
  * answered as it was: a call, a struct, a number, a ceiling or a rule is another. The second changes when something is
  * added, and programs that do not use it stay as they are. The third changes when neither does: every call gives the
  * answers that it gave. The number is 10,000 x first + 100 x second + third. */
-#define CHUDRAVIK_VERSION 20100
-#define CHUDRAVIK_VERSION_STRING "2.1.0"
+#define CHUDRAVIK_VERSION 20000
+#define CHUDRAVIK_VERSION_STRING "2.0.0"
 
 /* ---- ceilings ---- */
 
