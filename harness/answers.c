@@ -3,11 +3,13 @@
  * crates/replay/src/main.rt. Nothing of the library is linked.
  *
  *   read WORDS BYTES TEXT
+ *   any TABLEWORDS LISTWORDS BYTES TEXT
  *   write I L O A WORDS w.. BYTES
  *   tick I L O A WORDS w.. STATE b.. SWITCHES b.. NEXT LAMPS
  *   run I L O A WORDS w.. W CUBES VERDICT SETTLED
  *   cover I L O A WORDS w.. CUBES b.. N VERDICT
  */
+#include "drawing.h"
 #include "simulator.h"
 
 #include <stdbool.h>
@@ -235,6 +237,28 @@ static void answer_read(line_rest rest)
     free(table);
 }
 
+static void answer_any(line_rest rest)
+{
+    static uint8_t text[MOST_BYTES];
+    size_t table_words = take_number(&rest);
+    size_t list_words = take_number(&rest);
+    size_t bytes = take_number(&rest);
+    take_text(&rest, text);
+    if (is_turned_away(&rest, longer(table_words, list_words), bytes)) {
+        return;
+    }
+    uint16_t *table = lend(table_words * sizeof *table);
+    uint16_t *renumbered = lend(list_words * sizeof *renumbered);
+    chudravik_read_any_answer answer = simulate_read_any(text, bytes, table, table_words, renumbered, list_words);
+    printf("any number %u I %zu L %zu O %zu A %zu M %zu", (unsigned)answer.number, answer.counts.inputs,
+           answer.counts.latches, answer.counts.lamps, answer.counts.gates, answer.variables);
+    show_words("table", table, table_words);
+    show_words("list", renumbered, list_words);
+    putchar('\n');
+    free(renumbered);
+    free(table);
+}
+
 static void answer_write(line_rest rest)
 {
     chudravik_counts counts = take_counts(&rest);
@@ -343,6 +367,8 @@ static void answer_line(line_rest rest)
         putchar('\n');
     } else if (skip_name(&rest, "read")) {
         answer_read(rest);
+    } else if (skip_name(&rest, "any")) {
+        answer_any(rest);
     } else if (skip_name(&rest, "write")) {
         answer_write(rest);
     } else if (skip_name(&rest, "tick")) {

@@ -2,6 +2,7 @@
 // answered and what it left in each buffer that it was lent. A comment is its own line.
 //
 //   read WORDS BYTES TEXT                                      a table of WORDS words; the text, `x` behind it up to BYTES
+//   any TABLEWORDS LISTWORDS BYTES TEXT                        a table and a list of so many words; the text as above
 //   write I L O A WORDS w.. BYTES                              the table; a text buffer of BYTES bytes
 //   tick I L O A WORDS w.. STATE b.. SWITCHES b.. NEXT LAMPS   the table, two records; the lengths of the results
 //   run I L O A WORDS w.. W CUBES VERDICT SETTLED              the table; the interval; the lengths of the results
@@ -101,6 +102,51 @@ fn read_vector(line: &[u8]) {
         return;
     }
     read_lent(&text, bytes.value, words.value);
+}
+
+// ---- any
+
+fn show_any(text: &[u8], table: &mut [u16], renumbered: &mut [u16]) {
+    let answer = anyorder::read_any(text, table, renumbered);
+    say_number(b"any number ", answer.number as usize);
+    let counts = answer.counts;
+    say_number(b" I ", counts.inputs);
+    say_number(b" L ", counts.latches);
+    say_number(b" O ", counts.lamps);
+    say_number(b" A ", counts.gates);
+    say_number(b" M ", answer.variables);
+    say_words(b"; table", table);
+    say_words(b"; list", renumbered);
+    say(b"\n");
+}
+
+fn any_lent(text: &[u8], bytes: usize, table_words: usize, list_words: usize) {
+    let mut table = [UNTOUCHED_WORD; MOST_WORDS];
+    let mut renumbered = [UNTOUCHED_WORD; MOST_WORDS];
+    let given = bytes_within(bytes, text);
+    let table_lent = words_within(table_words, &table);
+    let list_lent = words_within(list_words, &renumbered);
+    if given < bytes || table_lent < table_words || list_lent < list_words {
+        too_large();
+        return;
+    }
+    show_any(
+        &text[..given],
+        &mut table[..table_lent],
+        &mut renumbered[..list_lent],
+    );
+}
+
+fn any_vector(line: &[u8]) {
+    let table_words = vector::number(line, 4);
+    let list_words = vector::next(line, table_words);
+    let bytes = vector::next(line, list_words);
+    let mut text = [b'x'; MOST_BYTES];
+    if !vector::text(line, bytes, &mut text) {
+        not_a_vector();
+        return;
+    }
+    any_lent(&text, bytes.value, table_words.value, list_words.value);
 }
 
 // ---- write
@@ -415,6 +461,8 @@ fn answer(line: &[u8]) {
         say(b"\n");
     } else if vector::opens(line, b"read ") {
         read_vector(line);
+    } else if vector::opens(line, b"any ") {
+        any_vector(line);
     } else if vector::opens(line, b"write ") {
         write_vector(line);
     } else if vector::opens(line, b"tick ") {
