@@ -1,5 +1,5 @@
 -- A plain text whose gates stand by depth already: its table is the plain one, and every variable keeps its number. Assumes nothing.
-use mathlib.Core.Path.{_≡_, refl, sym, ap, _∙_}
+use mathlib.Core.Path.{_≡_, sym, ap, _∙_}
 use mathlib.Core.Logic.{inl, inr}
 use mathlib.Core.List.{List}
 use Prim.Native.Nat.{ℕ, zero, suc, _+_, _*_, _-_, _/_, _%_, _<_, _≤_}
@@ -12,7 +12,7 @@ use Rattle.three.proofs.Lists.{tabulate-ext, tabulate-getD}
 use Rattle.circuit.specs.Table.{tableLength, top, literalsAt, gatesAt}
 use Rattle.circuit.specs.RulesInCode.{Legal}
 use Rattle.drawn.specs.Depth.{deep}
-use Rattle.drawn.specs.Drawing.{Drawing, leaves, lines, own, leftSource, rightSource, gateAt, gateOrder, lineAt, name, rename, renumbered, table}
+use Rattle.drawn.specs.Drawing.{Drawing, leaves, lines, own, leftSource, rightSource, gateAt, lineAt, name, rename, renumbered, table}
 use Rattle.drawn.proofs.Proper.{Proper}
 use Rattle.drawn.proofs.Sorting.{Before}
 use Rattle.drawn.proofs.Naming.{gates-sorted, gate-small, line-leaf, line-gate, name-line, name-zero}

@@ -1,6 +1,7 @@
 pub mod Searching
 pub mod Pigeons
 pub mod Loops
+pub mod Picking
 pub mod Sorting
 pub mod Proper
 pub mod Naming
@@ -9,6 +10,7 @@ pub mod Tables
 pub mod Same
 pub mod Refused
 pub mod Reading
+pub mod Sound
 pub mod Dues
 pub mod Plain
 pub mod Rounds

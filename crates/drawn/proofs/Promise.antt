@@ -31,9 +31,10 @@ use Rattle.drawn.proofs.Same.{behaviour}
 use Rattle.drawn.proofs.Refused.{gives-22}
 use Rattle.drawn.proofs.Plain.{PlainDrawing, plain-accepted}
 use Rattle.drawn.proofs.Twins.{next-twins, lamps-twins}
-use Rattle.drawn.proofs.Reading.{accepted-sound, accepted-legal, drawing-lines}
+use Rattle.drawn.proofs.Reading.{drawing-lines}
 use Rattle.drawn.proofs.Tables.{drawnCircuit, table-circuit}
 use Rattle.drawn.proofs.Kept.{table-kept, list-kept}
+use Rattle.drawn.proofs.Sound.{accepted-legal, accepted-sound}
 
 -- ---- an accepted text
 

@@ -13,7 +13,8 @@ use Rattle.drawn.specs.Numbers.{pick, byKey}
 use Rattle.drawn.specs.Depth.{Source, leaf, gate, depth, deep, order}
 use Rattle.drawn.specs.DepthInCode.{among, numbered, round, rounds}
 use Rattle.drawn.proofs.Loops.{depth-gate, depth-leaf}
-use Rattle.drawn.proofs.Sorting.{Stands, sorted-items, sorted-stands}
+use Rattle.drawn.proofs.Sorting.{sorted-items, sorted-stands}
+use Rattle.drawn.proofs.Picking.{Stands}
 
 -- ---- pick
 

@@ -16,11 +16,11 @@ use Rattle.circuit.proofs.Pass.{next-sized}
 use Rattle.circuit.specs.Table.{circuitOf}
 use Rattle.drawn.specs.Drawing.{Drawing, leaves, lines, own, nextLiteral, lamp, left, right, gateAt, lineAt, name, rename, table}
 use Rattle.drawn.specs.Meaning.{literal, Solves, nextUnder, lampsUnder, Does, Behaves, Follows}
-use Rattle.drawn.proofs.Sorting.{getD-behind}
 use Rattle.drawn.proofs.Proper.{Defined, Proper}
 use Rattle.drawn.proofs.Naming.{gates-sorted, gate-small, line-leaf, line-gate, Numbered, ofLeaf, ofGate, numbered, name-line, name-zero, old, named, left-named, right-named}
 use Rattle.drawn.proofs.Fixed.{Falling, falling, pass-front, pass-at}
 use Rattle.drawn.proofs.Tables.{drawnCircuit, table-circuit}
+use Rattle.drawn.proofs.Picking.{getD-behind}
 
 module _ (d : Drawing) (p : Proper d) (r s : List Bool) (inputs-long : length r ≡ d .counts .inputs) (latches-long : length s ≡ d .counts .latches) where
   abbrev gateList : List Gate

@@ -11,9 +11,9 @@ use Rattle.circuit.specs.Circuit.{Circuit, Latch, Gate}
 use Rattle.circuit.specs.Table.{top, tableLength, circuitOf, literalsAt, gatesAt}
 use Rattle.drawn.specs.Numbers.{pairs}
 use Rattle.drawn.specs.Drawing.{Drawing, leaves, nextLiteral, reset, lamp, left, right, gateAt, name, rename, table}
-use Rattle.drawn.proofs.Sorting.{getD-behind}
 use Rattle.drawn.proofs.Proper.{Defined, Proper}
 use Rattle.drawn.proofs.Naming.{named, left-named, right-named}
+use Rattle.drawn.proofs.Picking.{getD-behind}
 
 -- ---- pairs
 

@@ -13,10 +13,10 @@ use Rattle.circuit.specs.Circuit.{Circuit, Latch, Gate, value, pass, readings, 
 use Rattle.circuit.specs.Table.{circuitOf}
 use Rattle.drawn.specs.Drawing.{Drawing, leaves, lines, own, nextLiteral, lamp, left, right, table}
 use Rattle.drawn.specs.Meaning.{literal, Solves, nextUnder, lampsUnder}
-use Rattle.drawn.proofs.Sorting.{getD-behind}
 use Rattle.drawn.proofs.Proper.{Proper}
 use Rattle.drawn.proofs.Fixed.{Falling, falling, pass-front, pass-at}
 use Rattle.drawn.proofs.Same.{next-same, lamps-same}
+use Rattle.drawn.proofs.Picking.{getD-behind}
 
 module _ (d : Drawing) (p : Proper d) (due : (k : ℕ) → k < lines d → own d k ≡ 2 + 2 * k) (l : Legal (d .counts) (d .words))
     (r s : List Bool) (inputs-long : length r ≡ d .counts .inputs) (latches-long : length s ≡ d .counts .latches) where

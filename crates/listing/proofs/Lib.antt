@@ -1,4 +1,5 @@
 pub mod Judging
+pub mod Needs
 pub mod Keeping
 pub mod Turning
 pub mod Bodies

@@ -2,7 +2,8 @@
 use mathlib.Core.Path.{sym}
 use native.Mathlib.Omega.{arith}
 use lib.Seq.{length-take-le}
-use Rattle.anyorder.proofs.Answering.{left-refused, left-same, lines-refused, lines-kept, words-kept, owns-enough, spoken, lines-read}
+use Rattle.anyorder.proofs.Answering.{left-refused, left-same}
+use Rattle.anyorder.proofs.Reading.{lines-refused, lines-kept, words-kept, owns-enough, spoken, lines-read}
 use borrow.Author.Needs.{needs}
 use Rattle.anyorder.proofs.read_body.Statement.{statement}
 use Rattle.anyorder.proofs.read_body.Tie as tie

@@ -1,7 +1,8 @@
 -- `anyorder::read_ended` meets its contract: 1, the first line, and then the lines behind it. Assumes nothing.
 use mathlib.Core.List.{[]}
 use native.Mathlib.Omega.{arith}
-use Rattle.anyorder.proofs.Answering.{left-refused, left-same, too-long, first-refused, first-bounded, first-most, goes-on}
+use Rattle.anyorder.proofs.Answering.{left-refused, left-same}
+use Rattle.anyorder.proofs.Reading.{too-long, first-refused, first-bounded, first-most, goes-on}
 use borrow.Author.Needs.{needs}
 use Rattle.anyorder.proofs.read_ended.Statement.{statement}
 use Rattle.anyorder.proofs.read_ended.Tie as tie

@@ -3,7 +3,7 @@ use mathlib.Core.Path.{refl}
 use native.Mathlib.Omega.{arith}
 use borrow.Author.Needs.{needs}
 use Rattle.listing.proofs.Judging.{lamp-shows, other-shows}
-use Rattle.listing.proofs.Keeping.{lamp-shown, other-shown}
+use Rattle.listing.proofs.Needs.{lamp-shown, other-shown}
 use Rattle.listing.proofs.keep_own.Statement.{statement}
 use Rattle.listing.proofs.keep_own.Tie as tie
 

@@ -1,7 +1,8 @@
 -- `listing::list_line` meets its contract: refused, or listed. Assumes nothing.
 use native.Mathlib.Omega.{arith}
 use borrow.Author.Needs.{needs}
-use Rattle.listing.proofs.Keeping.{own-small, words-fit, line-refused, line-kept}
+use Rattle.listing.proofs.Keeping.{line-refused, line-kept}
+use Rattle.listing.proofs.Needs.{own-small, words-fit}
 use Rattle.listing.proofs.list_line.Statement.{statement}
 use Rattle.listing.proofs.list_line.Tie as tie
 
