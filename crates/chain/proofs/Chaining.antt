@@ -6,20 +6,20 @@ use native.Mathlib.Nat.{one-mul}
 use native.Mathlib.Omega.{arith}
 use lib.ListN.{length, getD, take, drop, replicate, length-append, length-drop, getD-replicate, List·getD-append}
 use lib.Seq.{paste, getD-take, length-take-le}
-use Rattle.three.specs.Lists.{tabulate, over}
+use Rattle.three.specs.Lists.{tabulate, over, first}
 use Rattle.three.specs.Cube.{Cube, subsumes}
+use Rattle.three.proofs.First.{first-ext}
 use Rattle.circuit.specs.declared.Counts.{Counts}
 use Rattle.circuit.specs.Circuit.{Circuit}
 use Rattle.circuit.specs.Table.{circuitOf}
 use Rattle.cubes.specs.Run.{hold, nextCube, start, Stage, reached, stage, cubeAt, at, stops, full, stepped, back, run}
-use Rattle.cubes.specs.Given.{first}
 use Rattle.stored.specs.CubesInCode.{startFields, keptBytes, coversFrom, SwitchesX}
 use Rattle.cubes.proofs.Wider.{reached-sized}
 use Rattle.cubes.proofs.Growing.{held-sized}
 use Rattle.stored.proofs.Keeping.{length-kept}
 use Rattle.stored.proofs.Starting.{start-fields}
 use Rattle.cubes.proofs.Storing.{records-sized, stored-cube, stored-sound, stored-byte}
-use Rattle.cubes.proofs.First.{first-ext, search-first}
+use Rattle.cubes.proofs.First.{search-first}
 use Rattle.cubes.proofs.Steps.{run-step}
 use Rattle.cubes.proofs.Buffered.{latches-counted, next-counted, cubes-sized}
 use Rattle.cubes.specs.Buffer.{cubeBytes, packCubes, packCube, cubeOf}

@@ -7,11 +7,11 @@ use native.Mathlib.Nat.{suc-mul, one-mul, mul-comm, mul-le-mul-right, add-sub-of
 use native.Mathlib.Omega.{arith}
 use lib.ListN.{length, drop, replicate}
 use lib.Seq.{paste, length-paste}
+use Rattle.three.specs.Lists.{first}
 use Rattle.circuit.specs.declared.Counts.{Counts}
 use Rattle.circuit.specs.Table.{circuitOf}
 use Rattle.chain.specs.declared.Progress.{Progress}
 use Rattle.cubes.specs.Run.{due, nextCube, stops, full, run}
-use Rattle.cubes.specs.Given.{first}
 use Rattle.stored.specs.CubesInCode.{keptBytes, coversFrom, SwitchesX}
 use Rattle.cubes.specs.Call.{roomIn, storedCubes, backTo}
 use Rattle.chain.specs.ChainInCode.{Advanced, Chained, Followable}

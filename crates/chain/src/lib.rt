@@ -11,7 +11,7 @@ ghost use Rattle.cubes.specs.Run.{due as isDue};
 ghost use Rattle.cubes.specs.Buffer.{cubeBytes};
 ghost use Rattle.cubes.specs.BufferInCode.{longestCube};
 ghost use Rattle.cubes.specs.HeldInCode.{differingByte};
-ghost use Rattle.cubes.specs.Given.{first};
+ghost use Rattle.three.specs.Lists.{first};
 ghost use Rattle.chain.specs.ChainInCode.{heldAfter, widenedBytes, Advanced, Followable, Chained};
 
 // If w is not 0 and divides k.

@@ -12,7 +12,7 @@ use lib.Seq.{getD-drop, drop-drop}
 use Rattle.three.specs.Lists.{every}
 use Rattle.three.proofs.Lists.{iff, and-parts, every-all, every-ext}
 use Rattle.circuit.specs.Refusal.{Test, allHold}
-use Rattle.circuit.specs.Table.{Kind, input, latch, literal, gate, several, kinds, width, rowTests, tableTests, top, literalsAt, gatesAt, literals}
+use Rattle.circuit.specs.Table.{Kind, input, latch, literal, gate, several, kinds, width, rowTests, tableTests, top, literalsAt, gatesAt, literals, literalTests, operandTests}
 use Rattle.circuit.specs.RulesInCode.{latchKept, literalKept, gateKept}
 use Rattle.circuit.specs.declared.Counts.{Counts}
 
@@ -60,16 +60,16 @@ module _ (most : ℕ) (kind : ℕ → Kind) (w : ℕ) (wide : (own : ℕ) → wi
 -- ---- the three kinds that have words
 
 latch-row : (most own : ℕ) (ws : List ℕ) (at : ℕ) → allHold (rowTests most (latch own) (drop at ws)) ≡ latchKept most ws at
-unfolding latchKept rowTests allHold
+unfolding latchKept rowTests literalTests operandTests allHold
 latch-row most own ws at = rw (getD-drop at ws 0 0, getD-drop at ws 1 0, add-zero) (ap (λ t. leb (getD ws at 0) most && t) (and-true _))
 
 literal-row : (most : ℕ) (ws : List ℕ) (at : ℕ) → allHold (rowTests most literal (drop at ws)) ≡ literalKept most ws at
-unfolding literalKept rowTests allHold
+unfolding literalKept rowTests literalTests operandTests allHold
 literal-row most ws at = rw (getD-drop at ws 0 0, add-zero) (and-true _)
 
 -- an operand below an own literal is below the largest literal
 gate-row : (most own : ℕ) → own ≤ most → (ws : List ℕ) (at : ℕ) → allHold (rowTests most (gate own) (drop at ws)) ≡ gateKept own ws at
-unfolding gateKept rowTests allHold
+unfolding gateKept rowTests literalTests operandTests allHold
 gate-row most own h ws at = rw (getD-drop at ws 0 0, getD-drop at ws 1 0, add-zero)
     (iff _ _
     (λ e. let p = and-parts (leb (getD ws at 0) most) _ e in let q = and-parts (leb (getD ws (at + 1) 0) most) _ (p .1) in ap (λ t. ltb (getD ws at 0) own && t) (sym (and-true _)) ∙ (q .1))
@@ -91,7 +91,7 @@ module _ (c : Counts) (ws : List ℕ) where
 
   -- an input has no word
   inputs-hold : every (c .inputs) (rowHolds (top c) input 0 2 ws) ≡ true
-  unfolding rowHolds rowTests allHold
+  unfolding rowHolds rowTests literalTests operandTests allHold
   inputs-hold = every-all (c .inputs) _ (λ i h. refl)
 
   latches-hold : every (c .latches) (rowHolds (top c) latch 2 (2 + 2 * c .inputs) ws) ≡ Latches

@@ -55,13 +55,23 @@ kinds c =
 unfoldable pub width : Kind → ℕ
 width kind = elim kind [ input own ↦ 0 | latch own ↦ 2 | literal ↦ 1 | gate own ↦ 2 ]
 
--- rules 6, 7 and 8 for a line's words, the first of ws; `most` is the largest literal
+-- rules 6 and 8 for a line's words, the first of ws; `most` is the largest literal
+unfoldable pub literalTests : ℕ → Kind → List ℕ → List Test
+literalTests most (input own) ws = []
+literalTests most (latch own) ws = leb (getD ws 0 0) most or 6 ∷ leb (getD ws 1 0) 2 or 8 ∷ []
+literalTests most literal ws = leb (getD ws 0 0) most or 6 ∷ []
+literalTests most (gate own) ws = leb (getD ws 0 0) most or 6 ∷ leb (getD ws 1 0) most or 6 ∷ []
+
+-- rule 7: a gate's operands are below its own literal
+unfoldable pub operandTests : Kind → List ℕ → List Test
+operandTests (input own) ws = []
+operandTests (latch own) ws = []
+operandTests literal ws = []
+operandTests (gate own) ws = ltb (getD ws 0 0) own or 7 ∷ ltb (getD ws 1 0) own or 7 ∷ []
+
+-- rules 6, 7 and 8
 unfoldable pub rowTests : ℕ → Kind → List ℕ → List Test
-rowTests most (input own) ws = []
-rowTests most (latch own) ws = leb (getD ws 0 0) most or 6 ∷ leb (getD ws 1 0) 2 or 8 ∷ []
-rowTests most literal ws = leb (getD ws 0 0) most or 6 ∷ []
-rowTests most (gate own) ws =
-    leb (getD ws 0 0) most or 6 ∷ leb (getD ws 1 0) most or 6 ∷ ltb (getD ws 0 0) own or 7 ∷ ltb (getD ws 1 0) own or 7 ∷ []
+rowTests most k ws = literalTests most k ws ++ operandTests k ws
 
 -- the same for the words of several lines
 unfoldable pub tableTests : ℕ → List Kind → List ℕ → List Test

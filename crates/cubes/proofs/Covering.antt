@@ -7,12 +7,12 @@ use native.Mathlib.Omega.{arith}
 use Rattle.three.specs.Lists.{every}
 use Rattle.three.specs.Cube.{Cube, subsumes}
 use borrow.Author.Tests.{not-false}
+use Rattle.three.proofs.First.{first-at, first-none, first-nowhere}
 use Rattle.three.proofs.Lists.{by-test, every-at, every-all}
 use Rattle.circuit.specs.Circuit.{Circuit}
 use Rattle.circuit.specs.RulesInCode.{Passed}
 use Rattle.cubes.specs.Run.{nextCube, start, cubeAt, Found, at, nowhere, search, stops, run}
 use Rattle.cubes.specs.Given.{covered, nextCovered, coverTests, firstUncovered}
-use Rattle.cubes.proofs.First.{first-at, first-none, first-nowhere}
 use Rattle.cubes.proofs.Steps.{Searched, searched, found, none-at-all}
 use Rattle.cubes.proofs.Cover.{Cover, chain-cover}
 use Rattle.cubes.proofs.Promise.{run-chain}

@@ -1,9 +1,9 @@
 -- Cubes that a caller gives, n of them (specification, 5.11): sound records; no execution leaves them. Assumes nothing.
 use mathlib.Core.Bool.{Bool, true, false, not}
 use mathlib.Core.List.{List, [], _∷_}
-use Prim.Native.Nat.{ℕ, zero, suc}
+use Prim.Native.Nat.{ℕ}
 use lib.Dec.{leb}
-use Rattle.three.specs.Lists.{every}
+use Rattle.three.specs.Lists.{every, first}
 use Rattle.three.specs.Cube.{Cube}
 use Rattle.circuit.specs.declared.Counts.{Counts}
 use Rattle.circuit.specs.Circuit.{Circuit}
@@ -11,11 +11,6 @@ use Rattle.circuit.specs.Refusal.{Test, _or_}
 use Rattle.cubes.specs.Run.{nextCube, start, at, nowhere, search}
 use Rattle.cubes.specs.Buffer.{soundIn}
 use Rattle.cubes.specs.Call.{roomIn}
-
--- the first number below n at which p holds, or n
-unfoldable pub first : ℕ → (ℕ → Bool) → ℕ
-first zero p = 0
-first (suc n) p = elim (p 0) [ true ↦ 0 | false ↦ suc (first n (λ i. p (suc i))) ]
 
 -- 10 for n cubes, 14; bytes beyond the n cubes are not looked at
 unfoldable pub cubeTests : Counts → List ℕ → ℕ → List Test

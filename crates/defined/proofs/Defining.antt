@@ -20,8 +20,8 @@ module _ (c : Counts) (words : List ℕ) (s : Spoken c words) where
   pub next-readable : Readable words 0 2 (c .latches)
   next-readable = record { long = λ i h. omega (arith, s .long); small = λ i h. s .literals (0 + 2 * i) (omega arith) }
 
-  pub lamps-readable : Readable words (literalsAt c) 1 (c .lamps)
-  lamps-readable = record { long = λ i h. omega (arith, s .long); small = λ i h. s .literals (literalsAt c + 1 * i) (omega arith) }
+  pub literals-readable : Readable words (literalsAt c) 1 (literals c)
+  literals-readable = record { long = λ i h. omega (arith, s .long); small = λ i h. s .literals (literalsAt c + 1 * i) (omega arith) }
 
   pub left-readable : Readable words (gatesAt c) 2 (c .gates)
   left-readable = record { long = λ i h. omega (arith, s .long); small = λ i h. s .literals (gatesAt c + 2 * i) (omega arith) }
@@ -35,12 +35,12 @@ module _ (d : Drawing) where
   abbrev asked : ℕ → ℕ → ℕ → Bool
   asked at step count = every count (λ i. defined d (getD (d .words) (at + step * i) 0))
 
-  pub all-asked : allDefined d ≡ (asked 0 2 (d .counts .latches) && (asked (2 * d .counts .latches) 1 (d .counts .lamps)
+  pub all-asked : allDefined d ≡ (asked 0 2 (d .counts .latches) && (asked (literalsAt (d .counts)) 1 (literals (d .counts))
       && (asked (gatesAt (d .counts)) 2 (d .counts .gates) && asked (gatesAt (d .counts) + 1) 2 (d .counts .gates))))
   unfolding allDefined
   all-asked =
       ap₂ (λ (a b : Bool). a && b) (every-ext (d .counts .latches) _ _ (λ i h. at (2 * i) (0 + 2 * i) (omega arith)))
-      (ap₂ (λ (a b : Bool). a && b) (every-ext (d .counts .lamps) _ _ (λ i h. at (literalsAt (d .counts) + i) (literalsAt (d .counts) + 1 * i) (omega arith)))
+      (ap₂ (λ (a b : Bool). a && b) (every-ext (literals (d .counts)) _ _ (λ i h. at (literalsAt (d .counts) + i) (literalsAt (d .counts) + 1 * i) (omega arith)))
       (ap (λ (b : Bool). asked (gatesAt (d .counts)) 2 (d .counts .gates) && b) (every-ext (d .counts .gates) _ _ (λ i h. at (gatesAt (d .counts) + 2 * i + 1) (gatesAt (d .counts) + 1 + 2 * i) (omega arith)))))
     where
       at : (k m : ℕ) → k ≡ m → defined d (getD (d .words) k 0) ≡ defined d (getD (d .words) m 0)
@@ -50,13 +50,13 @@ module _ (d : Drawing) where
   pub next-undefined : {a : Bool} → a ≡ asked 0 2 (d .counts .latches) → a ≡ false → false ≡ allDefined d
   next-undefined e f = and-fails _ (sym e ∙ f) ∙ sym all-asked
 
-  pub lamp-undefined : {a b : Bool} → a ≡ asked 0 2 (d .counts .latches) → a ≡ true → b ≡ asked (2 * d .counts .latches) 1 (d .counts .lamps) → b ≡ false → false ≡ allDefined d
-  lamp-undefined e f g h = and-fails _ (sym g ∙ h) ∙ and-holds _ (sym e ∙ f) ∙ sym all-asked
+  pub literal-undefined : {a b : Bool} → a ≡ asked 0 2 (d .counts .latches) → a ≡ true → b ≡ asked (literalsAt (d .counts)) 1 (literals (d .counts)) → b ≡ false → false ≡ allDefined d
+  literal-undefined e f g h = and-fails _ (sym g ∙ h) ∙ and-holds _ (sym e ∙ f) ∙ sym all-asked
 
-  pub left-undefined : {a b l : Bool} → a ≡ asked 0 2 (d .counts .latches) → a ≡ true → b ≡ asked (2 * d .counts .latches) 1 (d .counts .lamps) → b ≡ true
+  pub left-undefined : {a b l : Bool} → a ≡ asked 0 2 (d .counts .latches) → a ≡ true → b ≡ asked (literalsAt (d .counts)) 1 (literals (d .counts)) → b ≡ true
       → l ≡ asked (gatesAt (d .counts)) 2 (d .counts .gates) → l ≡ false → false ≡ allDefined d
   left-undefined e f g h i j = and-fails _ (sym i ∙ j) ∙ and-holds _ (sym g ∙ h) ∙ and-holds _ (sym e ∙ f) ∙ sym all-asked
 
-  pub rights-decide : {a b l r : Bool} → a ≡ asked 0 2 (d .counts .latches) → a ≡ true → b ≡ asked (2 * d .counts .latches) 1 (d .counts .lamps) → b ≡ true
+  pub rights-decide : {a b l r : Bool} → a ≡ asked 0 2 (d .counts .latches) → a ≡ true → b ≡ asked (literalsAt (d .counts)) 1 (literals (d .counts)) → b ≡ true
       → l ≡ asked (gatesAt (d .counts)) 2 (d .counts .gates) → l ≡ true → r ≡ asked (gatesAt (d .counts) + 1) 2 (d .counts .gates) → r ≡ allDefined d
   rights-decide e f g h i j k = k ∙ and-holds _ (sym i ∙ j) ∙ and-holds _ (sym g ∙ h) ∙ and-holds _ (sym e ∙ f) ∙ sym all-asked

@@ -10,12 +10,11 @@ use borrow.Author.Tests.{eqb-true, eq-eqb, ne-eqb, lt-ltb, ltb-true}
 use lib.Dec.{ltb, eqb}
 use lib.ListN.{length, getD, set}
 use lib.Seq.{getD-set-same, getD-set-other}
-use Rattle.three.specs.Lists.{every}
+use Rattle.three.specs.Lists.{every, first}
+use Rattle.three.proofs.First.{first-finds, first-holds}
 use Rattle.three.proofs.Lists.{by-test, every-all}
-use Rattle.drawn.specs.Numbers.{first}
 use Rattle.drawn.specs.Depth.{Source, leaf, gate}
 use Rattle.drawn.specs.Drawing.{Drawing, leaves, lines, own, once, defined, gateOf, source}
-use Rattle.drawn.proofs.Searching.{first-holds, first-finds}
 use Rattle.drawn.proofs.Proper.{Owned, owned-holds, source-gate, own-same}
 use Rattle.order.specs.Walk.{sourceOf}
 use Rattle.defined.specs.Places.{Entered, Sourced}

@@ -83,23 +83,24 @@ fn all_known(words: &[u16], at: usize, step: usize, count: usize, places: &[u16;
     true
 }
 
-// 21 for all literals: next literals, lamps, and both operands of each gate.
+// 21 for all literals: next literals, those of one-literal lines, and both operands of each gate.
 pub fn all_defined(counts: Counts, words: &[u16], places: &[u16; 4096]) -> bool
     requires { ⌜ Spoken counts (now words) ⌝ }
     ensures { λ r. ⌜ ((most : ℕ) (owns : List ℕ) → Entered (held most counts owns (now (words .entry))) (variables counts) (now (places .entry)) → r ≡ allDefined (held most counts owns (now (words .entry)))) ⌝ }
 {
-    let lamps = circuit::literals_at(counts);
-    let gates = circuit::gates_at(counts);
+    let literals = circuit::literals(counts);
+    let literals_at = circuit::literals_at(counts);
+    let gates_at = circuit::gates_at(counts);
     if !all_known(words, 0, 2, counts.latches, places) {
         return false;
     }
-    if !all_known(words, lamps, 1, counts.lamps, places) {
+    if !all_known(words, literals_at, 1, literals, places) {
         return false;
     }
-    if !all_known(words, gates, 2, counts.gates, places) {
+    if !all_known(words, gates_at, 2, counts.gates, places) {
         return false;
     }
-    all_known(words, gates + 1, 2, counts.gates, places)
+    all_known(words, gates_at + 1, 2, counts.gates, places)
 }
 
 // An operand as a gate: 0 for a leaf, 1 + i for gate i. Lines up to `leaves` are inputs and latches.

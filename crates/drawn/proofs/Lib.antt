@@ -1,4 +1,3 @@
-pub mod Searching
 pub mod Pigeons
 pub mod Loops
 pub mod Picking

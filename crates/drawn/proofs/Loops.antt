@@ -9,10 +9,10 @@ use native.Mathlib.Omega.{arith}
 use borrow.Author.Tests.{leb-true, leb-false, lt-leb}
 use lib.Dec.{leb}
 use Rattle.three.specs.Lists.{every}
+use Rattle.three.proofs.First.{failing}
 use Rattle.three.proofs.Lists.{by-test, every-fails}
 use Rattle.drawn.specs.Depth.{Source, leaf, gate, depth, deep, loopless}
 use Rattle.drawn.specs.DepthInCode.{Reads, Path, one, more}
-use Rattle.drawn.proofs.Searching.{failing}
 use Rattle.drawn.proofs.Pigeons.{pigeons}
 
 module _ (left right : ℕ → Source) where

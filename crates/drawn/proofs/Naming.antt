@@ -8,12 +8,12 @@ use native.Mathlib.Decide.{decLt}
 use borrow.Author.Tests.{ltb-true, ltb-false, eqb-true, lt-ltb, le-ltb, eq-eqb}
 use lib.Dec.{ltb, eqb}
 use lib.ListN.{length}
+use Rattle.three.specs.Lists.{first}
+use Rattle.three.proofs.First.{first-holds, first-only}
 use Rattle.three.proofs.Lists.{by-test}
-use Rattle.drawn.specs.Numbers.{first}
 use Rattle.drawn.specs.Depth.{Source, leaf, gate, deep, order}
 use Rattle.drawn.specs.DepthInCode.{Reads}
 use Rattle.drawn.specs.Drawing.{Drawing, leaves, lines, own, left, right, source, leftSource, rightSource, gateOrder, gateAt, lineAt, place, name}
-use Rattle.drawn.proofs.Searching.{first-holds, first-only}
 use Rattle.drawn.proofs.Sorting.{Before, ranked-apart, Sorted, sorts}
 use Rattle.drawn.proofs.Loops.{reads-lower}
 use Rattle.drawn.proofs.Proper.{Defined, constant, line, Proper, own-same, source-gate}

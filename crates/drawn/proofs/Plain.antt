@@ -13,7 +13,7 @@ use Rattle.three.proofs.Lists.{by-test, every-at}
 use Rattle.circuit.proofs.Legality.{legal}
 use Rattle.circuit.specs.RulesInCode.{Passed, Legal}
 use Rattle.circuit.specs.declared.Counts.{Counts}
-use Rattle.circuit.specs.Table.{variables, top, ceilingTests, tableLength, Kind, input, latch, literal, gate, kinds, rowTests}
+use Rattle.circuit.specs.Table.{variables, top, ceilingTests, tableLength, Kind, input, latch, literal, gate, kinds, rowTests, literalTests, operandTests}
 use Rattle.circuit.proofs.Refusals.{passed-refusal}
 use Rattle.text.specs.Outcome.{accepted, onward}
 use Rattle.text.specs.Text.{fits, owns, words, shownOwn, lineTests, Lines, readLines, header, countsOf, headerTests, Content, endingOf, readText}
@@ -23,7 +23,7 @@ use Rattle.text.proofs.Endings.{describes}
 use Rattle.drawn.specs.Depth.{deep, loopless}
 use Rattle.drawn.specs.Drawing.{Drawing, leaves, lines, own, nextLiteral, lamp as lampLiteral, left, right, leftSource, rightSource, drawingTests}
 use Rattle.drawn.specs.Meaning.{Uses, Leads, uses, through}
-use Rattle.drawn.specs.Lines.{literalTests, anyTests, anyHeaderTests, drawing, afterTests, readAny}
+use Rattle.drawn.specs.Lines.{anyTests, anyHeaderTests, drawing, afterTests, readAny}
 use Rattle.drawn.proofs.Proper.{Defined, constant, line, Owned, Proper, proper-passed}
 use Rattle.drawn.proofs.Refused.{looped}
 use Rattle.drawn.proofs.Reading.{text-fits, drawing-fits}
@@ -32,7 +32,7 @@ use Rattle.drawn.proofs.Dues.{dues, due-at}
 -- ---- lines
 
 plain-tests : (most : ℕ) (k : Kind) (ns : List ℕ) → Passed (lineTests most k ns) → Passed (anyTests most k ns)
-unfolding lineTests anyTests rowTests literalTests words
+unfolding lineTests anyTests rowTests literalTests operandTests words
 plain-tests most (input own) ns p = (p .0, tt)
 plain-tests most (latch own) ns p = (p .0, p .1 .1)
 plain-tests most literal ns p = (p .0, p .1 .1)

@@ -5,13 +5,12 @@ use Prim.Native.Nat.{ℕ, _+_, _*_, _-_, _/_, _%_, _<_, _≤_}
 use native.Mathlib.Omega.{arith}
 use borrow.Author.Tests.{ltb-true, ltb-false, leb-true, eqb-true, eqb-false, not-true, lt-ltb, le-leb, eq-eqb, ne-eqb}
 use lib.Dec.{leb, ltb, eqb}
-use Rattle.three.specs.Lists.{every}
+use Rattle.three.specs.Lists.{every, first}
+use Rattle.three.proofs.First.{first-finds, first-holds, first-only}
 use Rattle.three.proofs.Lists.{by-test, and-parts, every-at, every-all}
-use Rattle.drawn.specs.Numbers.{first}
 use Rattle.drawn.specs.Depth.{Source, leaf, gate, deep, loopless}
 use Rattle.drawn.specs.Drawing.{Drawing, leaves, lines, own, nextLiteral, lamp, left, right, gateOf, source, leftSource, rightSource, once, defined, allDefined, drawingTests}
 use Rattle.circuit.specs.RulesInCode.{Passed}
-use Rattle.drawn.proofs.Searching.{first-holds, first-finds, first-only}
 
 module _ (d : Drawing) where
   -- A literal's variable is 0 or some line's

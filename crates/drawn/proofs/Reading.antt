@@ -10,7 +10,7 @@ use lib.ListN.{length, getD}
 use Rattle.circuit.specs.RulesInCode.{Passed}
 use Rattle.circuit.specs.declared.Counts.{Counts}
 use Rattle.circuit.specs.Refusal.{Test, _or_, refusal}
-use Rattle.circuit.specs.Table.{ceilingTests, Kind, input, latch, literal, gate}
+use Rattle.circuit.specs.Table.{ceilingTests, Kind, input, latch, literal, gate, literalTests}
 use Rattle.circuit.proofs.Refusals.{Numbered, past, none, passed-refusal}
 use Rattle.text.specs.Part.{got}
 use Rattle.text.specs.Outcome.{accepted, refused, tested, further, onward}
@@ -19,7 +19,7 @@ use Rattle.text.proofs.Parts.{by-part}
 use Rattle.text.proofs.Outcomes.{accepted-same, tested-past, refused-accepted, tested-accepted, further-accepted, onward-accepted}
 use Rattle.text.proofs.Steps.{line-accepted}
 use Rattle.drawn.specs.Drawing.{Drawing, drawingTests}
-use Rattle.drawn.specs.Lines.{literalTests, anyTests, anyHeaderTests, bodyOf, drawing, afterTests, readDrawing, readAnyEnded, readAny}
+use Rattle.drawn.specs.Lines.{anyTests, anyHeaderTests, bodyOf, drawing, afterTests, readDrawing, readAnyEnded, readAny}
 
 pub any-numbered : (most : ℕ) (k : Kind) (ns : List ℕ) → Numbered (anyTests most k ns)
 unfolding anyTests literalTests

@@ -12,13 +12,13 @@ use Rattle.circuit.proofs.Legality.{passed-bounded}
 use Rattle.circuit.specs.RulesInCode.{Bounded, Legal}
 use Rattle.circuit.specs.declared.Counts.{Counts}
 use Rattle.circuit.specs.Refusal.{Test, _or_}
-use Rattle.circuit.specs.Table.{Kind, input, latch, literal, several, kinds}
+use Rattle.circuit.specs.Table.{Kind, input, latch, literal, several, kinds, literalTests}
 use Rattle.circuit.proofs.Refusals.{none, passed-append}
 use Rattle.text.specs.Outcome.{accepted, refused}
 use Rattle.text.specs.Text.{resetWord, words, Lines, readLines, countsOf, endingOf}
 use Rattle.text.proofs.Steps.{line-accepted}
 use Rattle.drawn.specs.Drawing.{Drawing, reset, drawingTests, table}
-use Rattle.drawn.specs.Lines.{literalTests, anyTests, anyHeaderTests, drawing, afterTests, readAny}
+use Rattle.drawn.specs.Lines.{anyTests, anyHeaderTests, drawing, afterTests, readAny}
 use Rattle.drawn.proofs.Proper.{Proper, proper}
 use Rattle.drawn.proofs.Tables.{table-legal}
 use Rattle.drawn.proofs.Reading.{any-numbered, drawing-accepted, text-accepted}

@@ -4,11 +4,11 @@ use mathlib.Core.List.{List, [], _∷_, _++_}
 use Prim.Native.Nat.{ℕ, suc, _+_, _*_, _-_, _/_, _%_}
 use lib.Dec.{leb, ltb, eqb}
 use lib.ListN.{getD}
-use Rattle.three.specs.Lists.{tabulate, every}
+use Rattle.three.specs.Lists.{tabulate, every, first}
 use Rattle.circuit.specs.declared.Counts.{Counts}
 use Rattle.circuit.specs.Refusal.{Test, _or_}
 use Rattle.circuit.specs.Table.{variables, literalsAt, gatesAt, literals}
-use Rattle.drawn.specs.Numbers.{first, pairs}
+use Rattle.drawn.specs.Numbers.{pairs}
 use Rattle.drawn.specs.Depth.{Source, leaf, gate, loopless, order}
 
 -- M, I, L, O and A; the own literals of the inputs, the latches and the gates, in file order; and the other numbers laid out as in the table:

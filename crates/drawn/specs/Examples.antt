@@ -3,15 +3,16 @@ use mathlib.Core.Path.{_≡_, refl}
 use mathlib.Core.List.{List, [], _∷_, map}
 use Prim.Native.Nat.{ℕ}
 use Prim.Native.String.{String}
-use Rattle.three.specs.Lists.{every, tabulate}
+use Rattle.three.specs.Lists.{every, tabulate, first}
+use Rattle.circuit.specs.Table.{literalTests}
 use Rattle.text.specs.Outcome.{Outcome, accepted, refused, onward, further}
 use Rattle.text.specs.Text.{shownOwn}
 use Rattle.text.specs.Bench.{bytes, outcomeOf}
-use Rattle.drawn.specs.Numbers.{first, pick, byKey, pairs}
+use Rattle.drawn.specs.Numbers.{pick, byKey, pairs}
 use Rattle.drawn.specs.Depth.{depth, deep, loopless, order}
 use Rattle.drawn.specs.DepthInCode.{numbered}
 use Rattle.drawn.specs.Drawing.{gateOf, source, gateOrder, once, defined, allDefined, drawingTests, lineAt, place, name, renumbered, rename, table}
-use Rattle.drawn.specs.Lines.{literalTests, anyTests, anyHeaderTests, afterTests, readDrawing, readAnyEnded, readAny}
+use Rattle.drawn.specs.Lines.{anyTests, anyHeaderTests, afterTests, readDrawing, readAnyEnded, readAny}
 
 -- What a drawing is made into: the table, and old variable to new
 pub record Made : Type 0 where

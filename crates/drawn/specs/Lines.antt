@@ -8,19 +8,12 @@ use lib.ListN.{length, getD}
 use Rattle.three.specs.Lists.{over}
 use Rattle.circuit.specs.declared.Counts.{Counts}
 use Rattle.circuit.specs.Refusal.{Test, _or_}
-use Rattle.circuit.specs.Table.{variables, tableLength, ceilingTests, Kind, input, latch, literal, gate, kinds}
+use Rattle.circuit.specs.Table.{variables, tableLength, ceilingTests, Kind, kinds, literalTests}
 use Rattle.text.specs.Part.{got, ill}
 use Rattle.text.specs.Outcome.{Outcome, refused, tested, further, onward, numberOf, leaves}
 use Rattle.text.specs.Text.{fits, words, ends, Lines, readLines, header, countsOf, endingOf}
 use Rattle.text.specs.Calls.{zeros}
 use Rattle.drawn.specs.Drawing.{Drawing, drawingTests, table, renumbered}
-
--- 6, and 8 for a latch: the rules for a line's words without 7
-unfoldable pub literalTests : ℕ → Kind → List ℕ → List Test
-literalTests most (input own) ws = []
-literalTests most (latch own) ws = leb (getD ws 0 0) most or 6 ∷ leb (getD ws 1 0) 2 or 8 ∷ []
-literalTests most literal ws = leb (getD ws 0 0) most or 6 ∷ []
-literalTests most (gate own) ws = leb (getD ws 0 0) most or 6 ∷ leb (getD ws 1 0) most or 6 ∷ []
 
 -- 4, then 6 and 8 for a line's numbers; `most` is the largest literal. An own literal is not judged here.
 unfoldable pub anyTests : ℕ → Kind → List ℕ → List Test

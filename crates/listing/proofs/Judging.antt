@@ -8,7 +8,7 @@ use borrow.Author.Tests.{le-leb, lt-leb}
 use lib.Dec.{leb, eqb}
 use lib.ListN.{length, getD}
 use Rattle.circuit.specs.Refusal.{refusal}
-use Rattle.circuit.specs.Table.{input, latch, literal, gate}
+use Rattle.circuit.specs.Table.{input, latch, literal, gate, literalTests}
 use Rattle.circuit.proofs.Refusals.{stops, past, none}
 use Rattle.text.specs.Text.{fits, resetWord, words, shownOwn}
 use Rattle.text.specs.KindsInCode.{coded}
@@ -16,7 +16,7 @@ use Rattle.text.proofs.Coding.{coded-input, coded-latch, coded-lamp, coded-gate
 use Rattle.lines.specs.declared.ReadLine.{ReadLine}
 use Rattle.lines.specs.LinesInCode.{Shape, numbersOf}
 use Rattle.lines.proofs.Finding.{line-length}
-use Rattle.drawn.specs.Lines.{literalTests, anyTests}
+use Rattle.drawn.specs.Lines.{anyTests}
 
 -- ---- how many numbers
 

@@ -10,9 +10,9 @@ use borrow.Author.Tests.{eqb-true, ltb-true, ltb-false, lt-ltb, le-ltb}
 use lib.Dec.{ltb, eqb}
 use lib.ListN.{length, getD, set}
 use lib.Seq.{getD-set-same, getD-set-other}
+use Rattle.three.proofs.First.{first-holds}
 use Rattle.three.proofs.Lists.{by-test}
 use Rattle.drawn.specs.Drawing.{Drawing, leaves, lines, own, gateAt, lineAt, place, name}
-use Rattle.drawn.proofs.Searching.{first-holds}
 use Rattle.drawn.proofs.Proper.{Proper}
 use Rattle.drawn.proofs.Naming.{line-small, name-line}
 use Rattle.names.specs.Naming.{lineBy, Followed, Of, Marked}

@@ -10,7 +10,7 @@ use Rattle.three.specs.Lists.{tabulate, over}
 use Rattle.three.proofs.Lists.{tabulate-ext, length-tabulate, getD-tabulate}
 use Rattle.three.proofs.Loops.{Stored, stored-next, stored-last, over-paste}
 use Rattle.circuit.specs.declared.Counts.{Counts}
-use Rattle.circuit.specs.Table.{tableLength, literalsAt, gatesAt}
+use Rattle.circuit.specs.Table.{tableLength, literals, literalsAt, gatesAt}
 use Rattle.drawn.proofs.Tables.{length-pairs, pairs-left, pairs-right, first-part, second-part, third-part}
 use Rattle.drawn.specs.Numbers.{pairs}
 use Rattle.drawn.specs.Drawing.{Drawing, nextLiteral, lamp, left, right, reset, gateAt, name, rename, table}
@@ -41,7 +41,7 @@ module _ (d : Drawing) (names order : List ℕ) (named : (v : ℕ) → getD name
       ap₂ (λ (xs ys : List ℕ). xs ++ ys)
       (pairs-ext (d .counts .latches) _ (reset d) _ (reset d) (λ i h. renamed-same (nextLiteral d i)) (λ i h. refl))
       (ap₂ (λ (xs ys : List ℕ). xs ++ ys)
-      (tabulate-ext (d .counts .lamps) _ _ (λ i h. renamed-same (lamp d i)))
+      (tabulate-ext (literals (d .counts)) _ _ (λ i h. renamed-same (lamp d i)))
       (pairs-ext (d .counts .gates) _ _ _ _
       (λ q h. renamed-same (left d (getD order q 0)) ∙ ap (λ (i : ℕ). rename d (left d i)) (ordered q h))
       (λ q h. renamed-same (right d (getD order q 0)) ∙ ap (λ (i : ℕ). rename d (right d i)) (ordered q h))))
@@ -52,8 +52,8 @@ module _ (c : Counts) (words names order : List ℕ) where
   abbrev latchPart : List ℕ
   latchPart = pairs (c .latches) (λ i. renamedBy names (getD words (2 * i) 0)) (λ i. getD words (2 * i + 1) 0)
 
-  abbrev lampPart : List ℕ
-  lampPart = tabulate (c .lamps) (λ i. renamedBy names (getD words (literalsAt c + i) 0))
+  abbrev literalPart : List ℕ
+  literalPart = tabulate (literals c) (λ i. renamedBy names (getD words (literalsAt c + i) 0))
 
   abbrev gatePart : List ℕ
   gatePart = pairs (c .gates) (λ q. renamedBy names (getD words (gatesAt c + 2 * getD order q 0) 0)) (λ q. renamedBy names (getD words (gatesAt c + 2 * getD order q 0 + 1) 0))
@@ -61,38 +61,38 @@ module _ (c : Counts) (words names order : List ℕ) where
   latch-long : length latchPart ≡ literalsAt c
   latch-long = length-pairs (c .latches) _ _
 
-  lamp-long : length lampPart ≡ c .lamps
-  lamp-long = length-tabulate (c .lamps) _
+  literal-long : length literalPart ≡ literals c
+  literal-long = length-tabulate (literals c) _
 
   gate-long : length gatePart ≡ 2 * c .gates
   gate-long = length-pairs (c .gates) _ _
 
   pub table-long : length (tableBy c words names order) ≡ tableLength c
   unfolding tableBy
-  table-long = omega (arith, length-append latchPart (lampPart ++ gatePart), length-append lampPart gatePart, latch-long, lamp-long, gate-long)
+  table-long = omega (arith, length-append latchPart (literalPart ++ gatePart), length-append literalPart gatePart, latch-long, literal-long, gate-long)
 
   pub word-reset : (k : ℕ) → k < literalsAt c → k % 2 ≡ 1 → getD words k 0 ≡ getD (tableBy c words names order) k 0
   unfolding tableBy
   word-reset k h odd =
       let e : 2 * (k / 2) + 1 ≡ k = omega arith in
-      sym (first-part latchPart lampPart gatePart k (omega (arith, latch-long)) ∙ ap (λ (n : ℕ). getD latchPart n 0) (sym e) ∙ pairs-right (c .latches) _ _ (k / 2) (omega arith) ∙ ap (λ (n : ℕ). getD words n 0) e)
+      sym (first-part latchPart literalPart gatePart k (omega (arith, latch-long)) ∙ ap (λ (n : ℕ). getD latchPart n 0) (sym e) ∙ pairs-right (c .latches) _ _ (k / 2) (omega arith) ∙ ap (λ (n : ℕ). getD words n 0) e)
 
   pub word-next : (k : ℕ) → k < literalsAt c → (k % 2 ≡ 1 → ⊥) → renamedBy names (getD words k 0) ≡ getD (tableBy c words names order) k 0
   unfolding tableBy
   word-next k h even =
       let e : 2 * (k / 2) ≡ k = omega arith in
-      sym (first-part latchPart lampPart gatePart k (omega (arith, latch-long)) ∙ ap (λ (n : ℕ). getD latchPart n 0) (sym e) ∙ pairs-left (c .latches) _ _ (k / 2) (omega arith) ∙ ap (λ (n : ℕ). renamedBy names (getD words n 0)) e)
+      sym (first-part latchPart literalPart gatePart k (omega (arith, latch-long)) ∙ ap (λ (n : ℕ). getD latchPart n 0) (sym e) ∙ pairs-left (c .latches) _ _ (k / 2) (omega arith) ∙ ap (λ (n : ℕ). renamedBy names (getD words n 0)) e)
 
   pub word-lamp : (k : ℕ) → literalsAt c ≤ k → k < gatesAt c → renamedBy names (getD words k 0) ≡ getD (tableBy c words names order) k 0
   unfolding tableBy
   word-lamp k l h =
       let e : literalsAt c + (k - literalsAt c) ≡ k = omega arith in
-      sym (second-part latchPart lampPart gatePart k (k - literalsAt c) (omega (arith, latch-long)) (omega (arith, lamp-long)) ∙ getD-tabulate (c .lamps) _ (k - literalsAt c) 0 (omega arith) ∙ ap (λ (n : ℕ). renamedBy names (getD words n 0)) e)
+      sym (second-part latchPart literalPart gatePart k (k - literalsAt c) (omega (arith, latch-long)) (omega (arith, literal-long)) ∙ getD-tabulate (literals c) _ (k - literalsAt c) 0 (omega arith) ∙ ap (λ (n : ℕ). renamedBy names (getD words n 0)) e)
 
   pub word-gate : (k i : ℕ) → gatesAt c ≤ k → k < tableLength c → i ≡ getD order ((k - (gatesAt c)) / 2) 0
       → renamedBy names (getD words (gatesAt c + 2 * i + (k - (gatesAt c)) % 2) 0) ≡ getD (tableBy c words names order) k 0
   unfolding tableBy
-  word-gate k i l h is = sym (third-part latchPart lampPart gatePart k (k - (gatesAt c)) (omega (arith, latch-long, lamp-long)) ∙ go (ℕ-discrete ((k - (gatesAt c)) % 2) 0))
+  word-gate k i l h is = sym (third-part latchPart literalPart gatePart k (k - (gatesAt c)) (omega (arith, latch-long, literal-long)) ∙ go (ℕ-discrete ((k - (gatesAt c)) % 2) 0))
     where
       go : Dec ((k - (gatesAt c)) % 2 ≡ 0) → getD gatePart (k - (gatesAt c)) 0 ≡ renamedBy names (getD words (gatesAt c + 2 * i + (k - (gatesAt c)) % 2) 0)
       go (yes z) =

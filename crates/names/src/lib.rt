@@ -49,14 +49,14 @@ fn renamed(names: &[u16; 4096], x: u16) -> u16
     2 * names[order::wide(x) / 2] + x % 2
 }
 
-// Word k of the table: latches and lamps as they stand, gates in their order, literals in the new numbers.
+// Word k of the table: latches and lines of one literal as they stand, gates in their order, literals in the new numbers.
 fn word_at(counts: Counts, words: &[u16], names: &[u16; 4096], order: &[u16; 4096], k: usize) -> u16
     requires { ⌜ Tabled counts (now words) (now names) (now order) × (k < tableLength counts) ⌝ }
     ensures { λ r. ⌜ r ≡ getD (tableBy counts (now (words .entry)) (now (names .entry)) (now (order .entry))) k 0 ⌝ }
 {
-    let lamps = circuit::literals_at(counts);
+    let literals = circuit::literals_at(counts);
     let gates = circuit::gates_at(counts);
-    if k < lamps {
+    if k < literals {
         if k % 2 == 1 {
             return words[k];
         }

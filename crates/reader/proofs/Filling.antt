@@ -9,7 +9,7 @@ use lib.Seq.{sets, length-sets}
 use Rattle.three.specs.Lists.{over}
 use Rattle.circuit.specs.declared.Counts.{Counts}
 use Rattle.circuit.specs.RulesInCode.{Passed}
-use Rattle.circuit.specs.Table.{top, Kind, input, latch, gate, several, rowTests, literal, kinds, literals}
+use Rattle.circuit.specs.Table.{top, Kind, input, latch, gate, several, rowTests, literal, kinds, literals, literalTests, operandTests}
 use Rattle.text.specs.Line.{readLine}
 use Rattle.text.specs.Outcome.{accepted, leaves}
 use Rattle.text.specs.Text.{words, lineTests, Lines, readLines}
@@ -26,7 +26,7 @@ use Rattle.text.proofs.Tables.{linesFrom, lines-first, lines-next, lines-last}
 
 -- words that nothing refuses have 16 bits
 words-small : (most : ℕ) (k : Kind) (ns : List ℕ) → most < 65536 → Passed (lineTests most k ns) → (i : ℕ) → getD (words k ns) i 0 < 65536
-unfolding lineTests words rowTests
+unfolding lineTests words rowTests literalTests operandTests
 words-small most (input own) ns h p i = omega arith
 words-small most (latch own) ns h p zero = omega (arith, leb-true)
 words-small most (latch own) ns h p (suc zero) = omega (arith, leb-true)

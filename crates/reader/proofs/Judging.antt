@@ -8,7 +8,7 @@ use borrow.Author.Tests.{eq-eqb, ne-eqb, le-leb, lt-leb, lt-ltb, le-ltb}
 use lib.Dec.{leb, ltb}
 use lib.ListN.{getD}
 use Rattle.circuit.specs.Refusal.{_or_, refusal}
-use Rattle.circuit.specs.Table.{Kind, input, latch, literal, gate, rowTests}
+use Rattle.circuit.specs.Table.{Kind, input, latch, literal, gate, rowTests, literalTests, operandTests}
 use Rattle.circuit.proofs.Refusals.{stops, past, none}
 use Rattle.lines.specs.declared.ReadLine.{ReadLine}
 use Rattle.text.specs.Text.{fits, owns, resetWord, words, lineTests}
@@ -43,7 +43,7 @@ module _ (most own : ℕ) (l : ReadLine) (s : Shape l) where
   input-own h p = line-own most (input own) l s (eq-eqb _ _ h) (ne-eqb _ _ p)
 
   pub input-passes : l .count ≡ 1 → nth l 0 ≡ own → 0 ≡ refusal (lineTests most (input own) (numbersOf l))
-  unfolding fits owns rowTests
+  unfolding fits owns rowTests literalTests operandTests
   input-passes h p = line-words most (input own) l s (eq-eqb _ _ h) (eq-eqb _ _ p) none
 
 module _ (most : ℕ) (l : ReadLine) (s : Shape l) where
@@ -52,11 +52,11 @@ module _ (most : ℕ) (l : ReadLine) (s : Shape l) where
   lamp-count h = line-count most literal l s (ne-eqb _ _ h)
 
   pub lamp-over : l .count ≡ 1 → most < nth l 0 → 6 ≡ refusal (lineTests most literal (numbersOf l))
-  unfolding fits owns words rowTests
+  unfolding fits owns words rowTests literalTests operandTests
   lamp-over h p = line-words most literal l s (eq-eqb _ _ h) refl (stops _ _ (lt-leb _ _ p))
 
   pub lamp-passes : l .count ≡ 1 → nth l 0 ≤ most → 0 ≡ refusal (lineTests most literal (numbersOf l))
-  unfolding fits owns words rowTests
+  unfolding fits owns words rowTests literalTests operandTests
   lamp-passes h p = line-words most literal l s (eq-eqb _ _ h) refl (past _ _ (le-leb _ _ p) none)
 
 module _ (most own : ℕ) (l : ReadLine) (s : Shape l) where
@@ -79,7 +79,7 @@ module _ (most own : ℕ) (l : ReadLine) (s : Shape l) where
 
     module _ (o : nth l 0 ≡ own) {r : ℕ} (e : r ≡ resetWord (nth l 0) (nth l 2)) where
       latch-words : {n : ℕ} → n ≡ refusal (leb (nth l 1) most or 6 ∷ leb r 2 or 8 ∷ []) → n ≡ refusal (lineTests most (latch own) (numbersOf l))
-      unfolding owns words rowTests
+      unfolding owns words rowTests literalTests operandTests
       latch-words h = line-words most (latch own) l s latch-fits (eq-eqb _ _ o) (rw e at h)
 
       pub latch-reset : nth l 1 ≤ most → 2 < r → 8 ≡ refusal (lineTests most (latch own) (numbersOf l))
@@ -103,7 +103,7 @@ module _ (most own : ℕ) (l : ReadLine) (s : Shape l) where
 
     module _ (o : nth l 0 ≡ own) where
       gate-words : {n : ℕ} → n ≡ refusal (leb (nth l 1) most or 6 ∷ leb (nth l 2) most or 6 ∷ ltb (nth l 1) own or 7 ∷ ltb (nth l 2) own or 7 ∷ []) → n ≡ refusal (lineTests most (gate own) (numbersOf l))
-      unfolding fits owns words rowTests
+      unfolding fits owns words rowTests literalTests operandTests
       gate-words h = line-words most (gate own) l s (eq-eqb _ _ p) (eq-eqb _ _ o) h
 
       pub gate-left-over : most < nth l 1 → 6 ≡ refusal (lineTests most (gate own) (numbersOf l))

@@ -5,7 +5,7 @@ use Prim.Native.Nat.{ℕ, _*_, _<_, _≤_}
 use native.Mathlib.Omega.{arith}
 use lib.Dec.{ltb}
 use lib.ListN.{length, getD}
-use Rattle.three.specs.Lists.{over}
+use Rattle.three.specs.Lists.{over, first}
 use Rattle.three.specs.Cube.{Cube}
 use Rattle.three.specs.Record.{pack}
 use Rattle.circuit.specs.declared.Counts.{Counts}
@@ -15,7 +15,7 @@ use Rattle.pass.specs.ValuesInCode.{valuesOf, literalValues}
 use Rattle.cubes.specs.Run.{nextCube, start}
 use Rattle.cubes.specs.Buffer.{cubeBytes, packCube, cubeIn}
 use Rattle.cubes.specs.BufferInCode.{longestCube}
-use Rattle.cubes.specs.Given.{first, covered}
+use Rattle.cubes.specs.Given.{covered}
 use Rattle.cubes.proofs.StoredCube.{few-bytes}
 use Rattle.cubes.proofs.Buffered.{next-counted}
 use Rattle.stored.specs.CubesInCode.{startFields, coversFrom, Settled}

@@ -4,17 +4,17 @@ use mathlib.Core.Bool.{cond}
 use mathlib.Core.List.{List, [], _∷_}
 use Prim.Native.Nat.{ℕ}
 use lib.Dec.{eqb}
-use Rattle.three.specs.Lists.{tabulate, every, adjust, over}
+use Rattle.three.specs.Lists.{tabulate, every, adjust, over, first}
 use Rattle.three.specs.Value.{code, decode, both, inverse, ternary}
 use Rattle.three.specs.Cube.{alike, allows, subsumes, blank, agree, merged}
 use Rattle.three.specs.Record.{byteOf, byteAt, pack, pairs, pairAt, unpack, bad, leftover, sound}
 use Rattle.circuit.specs.Circuit.{signed, value, pass, settle, readings}
 use Rattle.circuit.specs.Refusal.{refusal, allHold, leftBy}
-use Rattle.circuit.specs.Table.{ceilingTests, several, kinds, width, rowTests, tableTests, circuitOf, wordTests, boardTests, lampTests}
+use Rattle.circuit.specs.Table.{ceilingTests, several, kinds, width, rowTests, tableTests, circuitOf, wordTests, boardTests, lampTests, literalTests, operandTests}
 use Rattle.cubes.specs.Run.{switchesUnknown, nextCube, lampsIn, startField, resets, start, search, merge, mergeFrom, verdict}
 use Rattle.cubes.specs.Buffer.{cubeBytes, cubeOf, soundCube, cubeIn, soundIn}
 use Rattle.cubes.specs.Call.{roomIn}
-use Rattle.cubes.specs.Given.{first, cubeTests, covered, nextCovered, coverTests, firstUncovered}
+use Rattle.cubes.specs.Given.{cubeTests, covered, nextCovered, coverTests, firstUncovered}
 use Rattle.sent.specs.Call.{SentGiven, circuitIn, cubesIn, verdictTests, sentTests, verdictFields}
 
 -- S, with these cubes
@@ -28,7 +28,7 @@ sends cubes n = record {
 }
 
 unfoldable pub answered : SentGiven → List ℕ
-unfolding tabulate every adjust over code decode both inverse ternary alike allows subsumes blank agree merged byteOf byteAt pack pairs pairAt unpack bad leftover sound signed value pass settle readings refusal allHold leftBy ceilingTests lampTests several kinds width rowTests tableTests circuitOf wordTests boardTests switchesUnknown nextCube lampsIn startField resets start search merge mergeFrom verdict cubeBytes cubeOf soundCube cubeIn soundIn roomIn first cubeTests covered nextCovered coverTests firstUncovered circuitIn cubesIn verdictTests sentTests verdictFields
+unfolding tabulate every adjust over code decode both inverse ternary alike allows subsumes blank agree merged byteOf byteAt pack pairs pairAt unpack bad leftover sound signed value pass settle readings refusal allHold leftBy ceilingTests lampTests several kinds width rowTests literalTests operandTests tableTests circuitOf wordTests boardTests switchesUnknown nextCube lampsIn startField resets start search merge mergeFrom verdict cubeBytes cubeOf soundCube cubeIn soundIn roomIn first cubeTests covered nextCovered coverTests firstUncovered circuitIn cubesIn verdictTests sentTests verdictFields
 answered g =
     let number : ℕ = refusal (sentTests g) in
     number ∷ cond (eqb number 18) (firstUncovered (circuitIn g) (cubesIn g) (g .n)) 0 ∷ leftBy number (over (pack (verdictFields g)) (g .verdict)) (g .verdict)

@@ -8,18 +8,19 @@ use borrow.Author.Tests.{ltb-true, ltb-false}
 use lib.Dec.{ltb}
 use lib.ListN.{length, getD, take, drop, List·getD-append}
 use lib.Seq.{getD-drop, getD-take}
-use Rattle.three.specs.Lists.{over}
+use Rattle.three.specs.Lists.{over, first}
 use Rattle.three.specs.Cube.{Cube, subsumes}
 use Rattle.three.specs.Record.{pack}
+use Rattle.three.proofs.First.{first-ext}
 use Rattle.three.proofs.Lists.{by-test}
 use Rattle.circuit.specs.Circuit.{Circuit}
 use Rattle.cubes.specs.Run.{Found, at, nowhere, search}
 use Rattle.cubes.specs.Buffer.{cubeBytes, packCube, cubeIn}
 use Rattle.cubes.specs.BufferInCode.{Cubes}
-use Rattle.cubes.specs.Given.{first, covered}
+use Rattle.cubes.specs.Given.{covered}
 use Rattle.cubes.proofs.StoredCube.{cube-at, cube-pack, cube-long, cube-repacked, cube-in-sized, cube-covers, Bytes}
 use Rattle.stored.specs.CubesInCode.{coversFrom}
-use Rattle.cubes.proofs.First.{first-ext, search-first}
+use Rattle.cubes.proofs.First.{search-first}
 
 -- the bytes of a cube that was stored at the front of a buffer
 pub front-bytes : {latches : ℕ} (v : Cube) → length v ≡ latches → (d : List ℕ) → Bytes latches (λ i. getD (over (packCube v) d) i 0) v

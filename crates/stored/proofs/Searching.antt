@@ -11,11 +11,11 @@ use borrow.Author.Tests.{eq-eqb, ne-eqb}
 use lib.Bits.{bitAnd}
 use lib.Dec.{eqb}
 use lib.ListN.{length, getD}
+use Rattle.three.specs.Lists.{first}
+use Rattle.three.proofs.First.{first-at, first-none}
 use Rattle.three.proofs.Lists.{every-all, every-fails}
 use Rattle.three.proofs.Loops.{Tried, tried-first, tried-next}
-use Rattle.cubes.specs.Given.{first}
 use Rattle.stored.specs.CubesInCode.{coversFrom}
-use Rattle.cubes.proofs.First.{first-at, first-none}
 
 module _ (cubes b : List ℕ) (len n : ℕ) where
   -- byte i of the record at `at` has no bit that b's has not

@@ -5,7 +5,7 @@ ghost use mathlib.Core.Path.{_≡_};
 ghost use Prim.Native.Nat.{_+_, _*_, _-_, _<_, _≤_};
 ghost use lib.ListN.{length, getD, drop};
 ghost use lib.Seq.{paste};
-ghost use Rattle.three.specs.Lists.{every, over};
+ghost use Rattle.three.specs.Lists.{every, first, over};
 ghost use Rattle.three.specs.Value.{unknown, code};
 ghost use Rattle.three.specs.Record.{byteAt};
 ghost use Rattle.circuit.specs.Refusal.{refusal};
@@ -15,7 +15,7 @@ ghost use Rattle.cubes.specs.Run.{nextCube};
 ghost use Rattle.cubes.specs.Buffer.{cubeBytes, packCube, cubeOf, soundIn};
 ghost use Rattle.cubes.specs.BufferInCode.{longestCube, IsCube};
 ghost use Rattle.cubes.specs.HeldInCode.{keptByte};
-ghost use Rattle.cubes.specs.Given.{first, cubeTests};
+ghost use Rattle.cubes.specs.Given.{cubeTests};
 ghost use Rattle.stored.specs.CubesInCode.{startFields, keptBytes, coversFrom, SwitchesX, Settled};
 
 // The record of a cube with the most latches.

@@ -9,7 +9,7 @@ use lib.ListN.{length, length-append, drop, getD}
 use Rattle.circuit.specs.declared.Counts.{Counts}
 use Rattle.circuit.specs.Refusal.{refusal, allHold}
 use Rattle.circuit.specs.RulesInCode.{Passed, Bounded}
-use Rattle.circuit.specs.Table.{variables, top, ceilingTests, Kind, input, latch, literal, gate, several, kinds, width, rowTests, tableTests, wordTests, circuitTests, literals}
+use Rattle.circuit.specs.Table.{variables, top, ceilingTests, Kind, input, latch, literal, gate, several, kinds, width, rowTests, tableTests, wordTests, circuitTests, literals, literalTests, operandTests}
 use Rattle.text.specs.Decimal.{digits, decimal}
 use Rattle.text.specs.Line.{lineText, endedLine}
 use Rattle.text.specs.Text.{shown, numbers, headNumbers, writeBody, writeText}
@@ -42,7 +42,7 @@ latch-room own next (suc zero) p = simp length-append (omega (arith, length-belo
 latch-room own next (suc (suc n)) p = simp length-append (omega (arith, length-below 3 next (omega arith)))
 
 line-room : (most : ℕ) (k : Kind) (ws : List ℕ) → most ≤ 8191 → Passed (rowTests most k ws) → length (lineText (numbers k ws)) ≤ room k
-unfolding endedLine numbers room rowTests
+unfolding endedLine numbers room rowTests literalTests operandTests
 line-room most (input own) ws m p = simp length-append (omega arith)
 line-room most (latch own) ws m p = latch-room own (getD ws 0 0) (getD ws 1 0) (omega (arith, leb-true))
 line-room most literal ws m p = simp length-append (omega (arith, length-below 3 (getD ws 0 0) (omega (arith, leb-true))))
@@ -116,5 +116,5 @@ pub longestTable : List ℕ
 longestTable = longestWords (kinds ceiling)
 
 pub bound-reached : (0 ≡ refusal (circuitTests ceiling longestTable)) × (length (writeText ceiling longestTable) ≡ 58415)
-unfolding refusal circuitTests ceilingTests wordTests allHold tableTests rowTests width ceiling kinds several longest longestWords longestTable writeText headNumbers writeBody numbers shown endedLine decimal digits
+unfolding refusal circuitTests ceilingTests wordTests allHold tableTests rowTests literalTests operandTests width ceiling kinds several longest longestWords longestTable writeText headNumbers writeBody numbers shown endedLine decimal digits
 bound-reached = (refl, refl)

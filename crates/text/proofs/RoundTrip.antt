@@ -9,7 +9,7 @@ use lib.Seq.{take-add, take-at, drop-at, length-take-le, take-append-seam}
 use Rattle.three.specs.Lists.{over}
 use Rattle.circuit.specs.declared.Counts.{Counts}
 use Rattle.circuit.specs.Refusal.{Test, refusal, leftBy as afterwards}
-use Rattle.circuit.specs.Table.{top, tableLength, Kind, input, latch, literal, gate, kinds, width, rowTests, tableTests, circuitTests}
+use Rattle.circuit.specs.Table.{top, tableLength, Kind, input, latch, literal, gate, kinds, width, rowTests, tableTests, circuitTests, literalTests, operandTests}
 use Rattle.circuit.proofs.Refusals.{passed-append}
 use Rattle.circuit.specs.RulesInCode.{Bounded, Passed}
 use Rattle.text.specs.Outcome.{accepted}
@@ -29,7 +29,7 @@ record Row (k : Kind) (ws rest : List ℕ) : Type 0 where
   rules : (most : ℕ) → rowTests most k (take (width k) ws ++ rest) ≡ rowTests most k ws
 
 row : (k : Kind) (ws rest : List ℕ) → width k ≤ length ws → Row k ws rest
-unfolding numbers width rowTests
+unfolding numbers width rowTests literalTests operandTests
 row (input own) ws rest w = record { spelled = λ most d p. inputLine; rules = λ most. refl }
 row (latch own) [] rest w = absurd (omega arith)
 row (latch own) (a ∷ []) rest w = absurd (omega arith)

@@ -11,7 +11,7 @@ use lib.Seq.{drop-at}
 use Rattle.three.specs.Lists.{tabulate}
 use Rattle.three.proofs.Lists.{and-parts, by-test, tabulate-getD}
 use Rattle.circuit.specs.RulesInCode.{Passed}
-use Rattle.circuit.specs.Table.{Kind, input, latch, literal, gate, width, rowTests}
+use Rattle.circuit.specs.Table.{Kind, input, latch, literal, gate, width, rowTests, literalTests, operandTests}
 use Rattle.text.specs.Text.{fits, owns, words, lineTests, resetWord, shown}
 use Rattle.text.proofs.Lines.{Short}
 use Rattle.text.proofs.Tables.{Due}
@@ -66,7 +66,7 @@ pub drop-words : (k : Kind) (ns ws : List ℕ) → drop (width k) (words k ns ++
 drop-words k ns ws = drop-at (words k ns) ws (width k) (length-words k ns)
 
 pub rules-words : (most : ℕ) (k : Kind) (ns ws : List ℕ) → rowTests most k (words k ns ++ ws) ≡ rowTests most k (words k ns)
-unfolding words rowTests
+unfolding words rowTests literalTests operandTests
 rules-words most k ns ws = elim k [ input own ↦ refl | latch own ↦ refl | gate own ↦ refl | literal ↦ refl ]
 
 -- ---- what is spelled is read
@@ -78,7 +78,7 @@ pub record Seen (most : ℕ) (k : Kind) (all ws ns : List ℕ) : Type 0 where
   pub gives : words k ns ++ ws ≡ all
 
 pub seen : {most : ℕ} {k : Kind} {all ws ns : List ℕ} → most < 100000 → Due most k → Spelled ws k all ns → Passed (rowTests most k all) → Seen most k all ws ns
-unfolding lineTests fits owns words rowTests
+unfolding lineTests fits owns words rowTests literalTests operandTests
 seen m d (inputLine {own = own}) p = record { shape = omega arith; passes = (refl, (eq-eqb own own refl, p)); gives = refl }
 seen m d (latchLine {own = own} {reset = reset}) p = record { shape = omega (arith, leb-true, reset-short own reset (omega arith) (leb-true _ 2 (p .1 .0))); passes = (refl, (eq-eqb own own refl, p)); gives = refl }
 seen m d (latchPlain {own = own}) p = record { shape = omega (arith, leb-true); passes = (refl, (eq-eqb own own refl, rw (reset-absent own) p)); gives = rw (reset-absent own) }

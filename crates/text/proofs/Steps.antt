@@ -9,7 +9,7 @@ use lib.Dec.{leb}
 use lib.ListN.{length}
 use Rattle.circuit.specs.Refusal.{Test, _or_, refusal}
 use Rattle.circuit.specs.RulesInCode.{Passed}
-use Rattle.circuit.specs.Table.{top, ceilingTests, Kind, input, latch, gate, literal, kinds, rowTests}
+use Rattle.circuit.specs.Table.{top, ceilingTests, Kind, input, latch, gate, literal, kinds, rowTests, literalTests, operandTests}
 use Rattle.circuit.proofs.Refusals.{Numbered, stops, past, none}
 use Rattle.text.specs.Part.{got, ill}
 use Rattle.text.specs.Line.{readLine}
@@ -54,7 +54,7 @@ module _ (ending : List ℕ) (tests : Kind → List ℕ → List Test) (k : Kind
       (λ e. absurd (refused-accepted (rw (readLines, e) at a)))
 
 pub line-numbered : (most : ℕ) (k : Kind) (ns : List ℕ) → Numbered (lineTests most k ns)
-unfolding lineTests rowTests
+unfolding lineTests rowTests literalTests operandTests
 line-numbered most k ns = elim k [ input own ↦ omega arith | latch own ↦ omega arith | gate own ↦ omega arith | literal ↦ omega arith ]
 
 -- ---- 9, after the last line

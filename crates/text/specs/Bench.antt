@@ -7,7 +7,7 @@ use Prim.Native.String.{String}
 use Prim.Native.Char.{code}
 use lib.Dec.{eqb}
 use Rattle.circuit.specs.Refusal.{refusal}
-use Rattle.circuit.specs.Table.{ceilingTests, several, kinds, rowTests}
+use Rattle.circuit.specs.Table.{ceilingTests, several, kinds, rowTests, literalTests, operandTests}
 use Rattle.text.specs.Decimal.{isDigit, mayGrow, readOn, readNumber}
 use Rattle.text.specs.Line.{strip, prepend, splitLine}
 use Rattle.text.specs.Outcome.{Outcome, accepted, refused, tested, further, onward}
@@ -34,7 +34,7 @@ says t i l o a ws = record { text = t; outcome = accepted (record { counts = rec
 
 -- readText, all of it open to computation
 unfoldable pub outcomeOf : List ℕ → Outcome Content
-unfolding refusal ceilingTests several kinds rowTests isDigit mayGrow readOn readNumber strip prepend splitLine tested further onward fits owns resetWord words lineTests ends readLines header countsOf headerTests readEnded endingOf readText
+unfolding refusal ceilingTests several kinds rowTests literalTests operandTests isDigit mayGrow readOn readNumber strip prepend splitLine tested further onward fits owns resetWord words lineTests ends readLines header countsOf headerTests readEnded endingOf readText
 outcomeOf t = readText t
 
 -- each text has its outcome

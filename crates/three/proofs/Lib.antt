@@ -1,4 +1,5 @@
 pub mod Lists
+pub mod First
 pub mod Loops
 pub mod Table
 pub mod Fields
