@@ -995,7 +995,7 @@ static void lend_record(enum role role, size_t fields)
 /* ---- what was met ---- */
 
 /* The numbers as they are, but 10 by what was too short. */
-enum { MOST_NUMBER = 18, TEN_TABLE, TEN_GIVEN, TEN_RESULT, OUTCOMES };
+enum { MOST_NUMBER = 22, TEN_TABLE, TEN_GIVEN, TEN_RESULT, OUTCOMES };
 
 static uint64_t met[CALLS][OUTCOMES];
 
@@ -1004,6 +1004,9 @@ static bool can_give(enum call call, size_t outcome)
     switch (call) {
     case READ:
         return outcome <= 9 || outcome == TEN_TABLE;
+    case READ_ANY:
+        return (outcome <= 9 && outcome != 5 && outcome != 7) || (outcome >= 20 && outcome <= 22) ||
+               outcome == TEN_TABLE || outcome == TEN_RESULT;
     case WRITE:
         return outcome == 0 || outcome == 3 || outcome == 11 || outcome == TEN_TABLE || outcome == TEN_RESULT;
     case TICK:
@@ -1131,6 +1134,47 @@ static void try_read(circuit *c)
     see(OFFICE_READ, hand.library.number == 0 && t.byte[line_behind(&t, 0) - 2] == '\r');
     if (hand.library.number == 0)
         must_write_and_read_alike(hand.library.counts, library_table(&hand));
+}
+
+/* An operand that is not below its gate, so that there may be a loop. */
+static void turn_back(circuit *c)
+{
+    size_t i = below(c->counts.gates);
+    if (c->counts.gates > 0)
+        c->operand[i][below(2)] = (uint16_t)between(gate_literal(c, i), top_literal(c));
+}
+
+/* M above the count of variables, so that some are not defined, and a literal of one of those. */
+static void leave_gap(text *t, circuit *c)
+{
+    static text first;
+    size_t gap = between(1, 5), literal = top_literal(c) + between(1, 2 * gap);
+    if (c->counts.lamps > 0)
+        c->lamp[below(c->counts.lamps)] = (uint16_t)literal;
+    t->count = first.count = 0;
+    append_circuit(t, c, 0);
+    append_first_line(&first, variables(c) + gap, c->counts);
+    splice(t, 0, line_behind(t, 0), first.byte, first.count);
+}
+
+/* Texts that are for read, with a loop or a gap now and then; drawings.c has the other orders. */
+static void try_read_any(circuit *c)
+{
+    static text t;
+    make_circuit(c, 15);
+    twice_begin(&hand, READ_ANY, c->counts, 0);
+    if (chance(8))
+        turn_back(c);
+    if (chance(8))
+        leave_gap(&t, c);
+    else
+        make_text(&t, c);
+    lend_given(TEXT, t.byte, t.count);
+    lend_noise(TABLE, 2 * table_length_for(c));
+    lend_noise(LIST, 2 * length_for(1 + variables(c) + below(8)));
+    make_call();
+    note(READ_ANY, hand.library.number, table_words(&hand) < words_of(c->counts) ? TEN_TABLE : TEN_RESULT);
+    see_size(hand.library.number, hand.library.counts);
 }
 
 static size_t text_length_for(const circuit *c)
@@ -1504,11 +1548,13 @@ static void try_call(uint64_t number)
     throw_dice(seed, number);
     set_trouble();
     size_t roll = below(100);
-    if (roll < 33)
+    if (roll < 28)
         try_read(&c);
-    else if (roll < 45)
+    else if (roll < 38)
+        try_read_any(&c);
+    else if (roll < 48)
         try_write(&c);
-    else if (roll < 60)
+    else if (roll < 61)
         try_tick(&c);
     else if (roll < 84)
         try_run(&c);

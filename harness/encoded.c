@@ -35,7 +35,8 @@ static size_t take_length(string_rest *rest)
     return length < LONGEST_BUFFER ? length : LONGEST_BUFFER;
 }
 
-static size_t take_table_bytes(string_rest *rest)
+/* Of a table or of a list. */
+static size_t take_words_bytes(string_rest *rest)
 {
     size_t words = take_number(rest);
     return words < LONGEST_BUFFER / 2 ? 2 * words : LONGEST_BUFFER;
@@ -99,7 +100,16 @@ static void lend_bytes(twice *t, const string_rest *rest, enum role role, size_t
 static void lay_read(twice *t, string_rest *rest)
 {
     twice_begin(t, READ, (chudravik_counts){0}, 0);
-    lend_bytes(t, rest, TABLE, take_table_bytes(rest));
+    lend_bytes(t, rest, TABLE, take_words_bytes(rest));
+    size_t least = take_length(rest);
+    give_text(t, rest, least);
+}
+
+static void lay_read_any(twice *t, string_rest *rest)
+{
+    twice_begin(t, READ_ANY, (chudravik_counts){0}, 0);
+    lend_bytes(t, rest, TABLE, take_words_bytes(rest));
+    lend_bytes(t, rest, LIST, take_words_bytes(rest));
     size_t least = take_length(rest);
     give_text(t, rest, least);
 }
@@ -107,7 +117,7 @@ static void lay_read(twice *t, string_rest *rest)
 static void lay_write(twice *t, string_rest *rest)
 {
     twice_begin(t, WRITE, take_counts(rest), 0);
-    size_t table_bytes = take_table_bytes(rest);
+    size_t table_bytes = take_words_bytes(rest);
     lend_bytes(t, rest, TEXT, take_length(rest));
     give_table(t, rest, table_bytes);
 }
@@ -115,7 +125,7 @@ static void lay_write(twice *t, string_rest *rest)
 static void lay_tick(twice *t, string_rest *rest)
 {
     twice_begin(t, TICK, take_counts(rest), 0);
-    size_t table_bytes = take_table_bytes(rest);
+    size_t table_bytes = take_words_bytes(rest);
     size_t state_bytes = take_length(rest);
     size_t switches_bytes = take_length(rest);
     lend_bytes(t, rest, NEXT, take_length(rest));
@@ -128,7 +138,7 @@ static void lay_tick(twice *t, string_rest *rest)
 static void lay_run(twice *t, string_rest *rest)
 {
     chudravik_counts counts = take_counts(rest);
-    size_t table_bytes = take_table_bytes(rest);
+    size_t table_bytes = take_words_bytes(rest);
     twice_begin(t, RUN, counts, take_number(rest));
     lend_bytes(t, rest, CUBES, take_length(rest));
     lend_bytes(t, rest, VERDICT, take_length(rest));
@@ -139,7 +149,7 @@ static void lay_run(twice *t, string_rest *rest)
 static void lay_cover(twice *t, string_rest *rest)
 {
     chudravik_counts counts = take_counts(rest);
-    size_t table_bytes = take_table_bytes(rest);
+    size_t table_bytes = take_words_bytes(rest);
     twice_begin(t, COVER, counts, take_number(rest));
     size_t cubes_bytes = take_length(rest);
     lend_bytes(t, rest, VERDICT, take_length(rest));
@@ -147,13 +157,22 @@ static void lay_cover(twice *t, string_rest *rest)
     give_bytes(t, rest, CUBES, cubes_bytes);
 }
 
+typedef void layer(twice *t, string_rest *rest);
+
+static layer *layer_of(uint8_t first)
+{
+    static layer *const older[] = {lay_read, lay_write, lay_tick, lay_run};
+    if (first >> 4 != 0)
+        return lay_read_any;
+    return first & 8 ? lay_cover : older[first & 3];
+}
+
 bool encoded_make(twice *t, const uint8_t *string, size_t bytes)
 {
-    static void (*const lay[CALLS])(twice *, string_rest *) = {lay_read, lay_write, lay_tick, lay_run, lay_cover};
     string_rest rest = {.at = string, .end = string + bytes};
     uint8_t first = take_byte(&rest);
     rest.short_words = first & 4;
     rest.ways = take_byte(&rest);
-    lay[first & 8 ? COVER : first & 3](t, &rest);
+    layer_of(first)(t, &rest);
     return twice_make(t);
 }

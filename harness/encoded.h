@@ -1,9 +1,10 @@
 /* A call as a string of bytes, for whoever looks for calls by changing bytes: every string is a call.
  *
- *   byte 0      the call (its two low bits, or a cover where bit 3 is set), and whether a word of a table is one byte
- *               (bit 2) or two
+ *   byte 0      the call, and whether a word of a table is one byte (bit 2) or two. The call is by the high four bits:
+ *               0 read, write, tick or run by the two low bits, or a cover where bit 3 is set; else a read_any
  *   byte 1      how the buffers are laid (twice.h), two bits for each
  *   read        the table's words; how many bytes the text has at least; then the text as it is, with `x` behind it
+ *   read_any    the table's words, the list's words; and on as for read
  *   write       I, L, O, A, the table's words, the text's bytes; then the table
  *   tick        I, L, O, A, the table's words, the bytes of state, switches, next and lamps; then table, state, switches
  *   run         I, L, O, A, the table's words, w, the bytes of cubes, verdict and settled; then the table

@@ -37,6 +37,7 @@ static const uint8_t no_latch_known = 0;
 
 static const enum role buffers_of[CALLS][6] = {
     [READ] = {TEXT, TABLE, ROLES},
+    [READ_ANY] = {TEXT, TABLE, LIST, ROLES},
     [WRITE] = {TABLE, TEXT, ROLES},
     [TICK] = {TABLE, STATE, SWITCHES, NEXT, LAMPS, ROLES},
     [RUN] = {TABLE, CUBES, VERDICT, SETTLED, ROLES},
@@ -53,7 +54,8 @@ static size_t count_buffers(enum call call)
 
 static bool is_given(enum call call, enum role role)
 {
-    return role == STATE || role == SWITCHES || (role == TEXT && call == READ) || (role == TABLE && call != READ) ||
+    bool reads = call == READ || call == READ_ANY;
+    return role == STATE || role == SWITCHES || (role == TEXT && reads) || (role == TABLE && !reads) ||
            (role == CUBES && call == COVER);
 }
 
@@ -88,7 +90,7 @@ static size_t given_bytes(const sample *s, enum role role)
 static void lend_whole(twice *t, const sample *s, enum role role)
 {
     bool given = is_given(t->call, role);
-    size_t bytes = given ? given_bytes(s, role) : role == TABLE ? sizeof s->table : RESULT_BYTES;
+    size_t bytes = given ? given_bytes(s, role) : role == TABLE || role == LIST ? sizeof s->table : RESULT_BYTES;
     if (given)
         memcpy(twice_content(t, role), given_content(s, role), bytes);
     else

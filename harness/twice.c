@@ -6,9 +6,9 @@
 #include <stdlib.h>
 #include <string.h>
 
-const char *const call_names[CALLS] = {"read", "write", "tick", "run", "cover"};
-const char *const role_names[ROLES] = {"text",  "table", "state",   "switches", "next",
-                                       "lamps", "cubes", "verdict", "settled"};
+const char *const call_names[CALLS] = {"read", "read_any", "write", "tick", "run", "cover"};
+const char *const role_names[ROLES] = {"text",  "table", "list",    "state",  "switches",
+                                       "next",  "lamps", "cubes",   "verdict", "settled"};
 
 /* ---- buffers ---- */
 
@@ -74,7 +74,7 @@ static size_t bytes_of(const twice *t, enum role role)
     return t->lent[role].bytes;
 }
 
-/* Regions and malloc'ed memory start on even addresses, and a table has an even count of bytes. */
+/* Regions and malloc'ed memory start on even addresses, and a table or a list has an even count of bytes. */
 uint16_t *library_table(const twice *t)
 {
     return (uint16_t *)(void *)of_library(t, TABLE);
@@ -104,6 +104,32 @@ static answer simulator_reads(const twice *t)
     chudravik_read_answer read =
         simulate_read(of_simulator(t, TEXT), bytes_of(t, TEXT), simulator_table(t), table_words(t));
     return (answer){.number = read.number, .counts = read.counts};
+}
+
+static uint16_t *library_list(const twice *t)
+{
+    return (uint16_t *)(void *)of_library(t, LIST);
+}
+
+static uint16_t *simulator_list(const twice *t)
+{
+    return (uint16_t *)(void *)of_simulator(t, LIST);
+}
+
+static answer library_reads_any(const twice *t)
+{
+    chudravik_read_any_answer read =
+        chudravik_read_any(of_library(t, TEXT), bytes_of(t, TEXT), library_table(t), table_words(t), library_list(t),
+                           bytes_of(t, LIST) / 2);
+    return (answer){.number = read.number, .counts = read.counts, .variables = read.variables};
+}
+
+static answer simulator_reads_any(const twice *t)
+{
+    chudravik_read_any_answer read =
+        simulate_read_any(of_simulator(t, TEXT), bytes_of(t, TEXT), simulator_table(t), table_words(t),
+                          simulator_list(t), bytes_of(t, LIST) / 2);
+    return (answer){.number = read.number, .counts = read.counts, .variables = read.variables};
 }
 
 static answer library_writes(const twice *t)
@@ -171,9 +197,14 @@ static answer simulator_covers(const twice *t)
 
 typedef answer call_of(const twice *t);
 
-static call_of *const by_library[CALLS] = {library_reads, library_writes, library_ticks, library_runs, library_covers};
-static call_of *const by_simulator[CALLS] = {simulator_reads, simulator_writes, simulator_ticks, simulator_runs,
-                                             simulator_covers};
+static call_of *const by_library[CALLS] = {
+    [READ] = library_reads,  [READ_ANY] = library_reads_any, [WRITE] = library_writes,
+    [TICK] = library_ticks,  [RUN] = library_runs,           [COVER] = library_covers,
+};
+static call_of *const by_simulator[CALLS] = {
+    [READ] = simulator_reads,  [READ_ANY] = simulator_reads_any, [WRITE] = simulator_writes,
+    [TICK] = simulator_ticks,  [RUN] = simulator_runs,           [COVER] = simulator_covers,
+};
 
 /* ---- what is compared ---- */
 
@@ -198,7 +229,8 @@ static bool same_answers(twice *t)
            same_number(t, "I", l->counts.inputs, s->counts.inputs) &&
            same_number(t, "L", l->counts.latches, s->counts.latches) &&
            same_number(t, "O", l->counts.lamps, s->counts.lamps) &&
-           same_number(t, "A", l->counts.gates, s->counts.gates) && same_number(t, "bytes", l->bytes, s->bytes) &&
+           same_number(t, "A", l->counts.gates, s->counts.gates) &&
+           same_number(t, "M", l->variables, s->variables) && same_number(t, "bytes", l->bytes, s->bytes) &&
            same_number(t, "n", l->cubes, s->cubes) && same_number(t, "j", l->back, s->back) &&
            same_number(t, "s", l->settled, s->settled) && same_number(t, "cube", l->cube, s->cube);
 }

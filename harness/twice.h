@@ -1,16 +1,17 @@
-/* A call made twice on equal memory: to the library, in guarded buffers, and to the simulator. Answers and every lent
+/* A call made twice on equal memory: to the library, in guarded buffers, and to the simulators. Answers and every lent
  * byte must be equal afterwards, given bytes and canaries as they were. A `twice` has all that its calls need, so that
  * threads which have one each share nothing.
  */
 #ifndef TWICE_H
 #define TWICE_H
 
+#include "drawing.h"
 #include "guarded.h"
 #include "simulator.h"
 
-enum call { READ, WRITE, TICK, RUN, COVER, CALLS };
+enum call { READ, READ_ANY, WRITE, TICK, RUN, COVER, CALLS };
 
-enum role { TEXT, TABLE, STATE, SWITCHES, NEXT, LAMPS, CUBES, VERDICT, SETTLED, ROLES };
+enum role { TEXT, TABLE, LIST, STATE, SWITCHES, NEXT, LAMPS, CUBES, VERDICT, SETTLED, ROLES };
 
 extern const char *const call_names[CALLS];
 extern const char *const role_names[ROLES];
@@ -36,6 +37,7 @@ typedef struct {
 typedef struct {
     uint32_t number;
     chudravik_counts counts;
+    size_t variables;
     size_t bytes;
     size_t cubes;
     size_t back;
