@@ -6,7 +6,8 @@
  *   any TABLEWORDS LISTWORDS BYTES TEXT
  *   write I L O A WORDS w.. BYTES
  *   tick I L O A WORDS w.. STATE b.. SWITCHES b.. NEXT LAMPS
- *   run I L O A WORDS w.. W CUBES VERDICT SETTLED
+ *   chain I L O A WORDS w.. W CUBES
+ *   judge I L O A WORDS w.. CUBES b.. N J VERDICT SETTLED
  *   cover I L O A WORDS w.. CUBES b.. N VERDICT
  */
 #include "drawing.h"
@@ -301,31 +302,46 @@ static void answer_tick(line_rest rest)
     free(next);
 }
 
-static void answer_run(line_rest rest)
+static void answer_chain(line_rest rest)
 {
     chudravik_counts counts = take_counts(&rest);
     size_t words = take_words(&rest, given_table);
     size_t w = take_number(&rest);
     size_t cubes_bytes = take_number(&rest);
-    size_t verdict_bytes = take_number(&rest);
-    size_t settled_bytes = take_number(&rest);
-    size_t longest = longer(cubes_bytes, longer(verdict_bytes, settled_bytes));
-    if (is_turned_away(&rest, words, longest)) {
+    if (is_turned_away(&rest, words, cubes_bytes)) {
         return;
     }
     uint8_t *cubes = lend(cubes_bytes);
+    chudravik_chain_answer answer = simulate_chain(counts, given_table, words, w, cubes, cubes_bytes);
+    printf("chain number %u n %zu j %zu", (unsigned)answer.number, answer.cubes, answer.back);
+    show_bytes("cubes", cubes, cubes_bytes);
+    putchar('\n');
+    free(cubes);
+}
+
+static void answer_judge(line_rest rest)
+{
+    static uint8_t cubes[MOST_BYTES];
+    chudravik_counts counts = take_counts(&rest);
+    size_t words = take_words(&rest, given_table);
+    size_t cubes_bytes = take_bytes(&rest, cubes);
+    size_t n = take_number(&rest);
+    size_t j = take_number(&rest);
+    size_t verdict_bytes = take_number(&rest);
+    size_t settled_bytes = take_number(&rest);
+    if (is_turned_away(&rest, words, longer(cubes_bytes, longer(verdict_bytes, settled_bytes)))) {
+        return;
+    }
     uint8_t *verdict = lend(verdict_bytes);
     uint8_t *settled = lend(settled_bytes);
-    chudravik_run_answer answer = simulate_run(counts, given_table, words, w, cubes, cubes_bytes, verdict,
-                                               verdict_bytes, settled, settled_bytes);
-    printf("run number %u n %zu j %zu s %zu", (unsigned)answer.number, answer.cubes, answer.back, answer.settled);
-    show_bytes("cubes", cubes, cubes_bytes);
+    chudravik_judge_answer answer = simulate_judge(counts, given_table, words, cubes, cubes_bytes, n, j, verdict,
+                                                   verdict_bytes, settled, settled_bytes);
+    printf("judge number %u s %zu", (unsigned)answer.number, answer.settled);
     show_bytes("verdict", verdict, verdict_bytes);
     show_bytes("settled", settled, settled_bytes);
     putchar('\n');
     free(settled);
     free(verdict);
-    free(cubes);
 }
 
 static void answer_cover(line_rest rest)
@@ -373,8 +389,10 @@ static void answer_line(line_rest rest)
         answer_write(rest);
     } else if (skip_name(&rest, "tick")) {
         answer_tick(rest);
-    } else if (skip_name(&rest, "run")) {
-        answer_run(rest);
+    } else if (skip_name(&rest, "chain")) {
+        answer_chain(rest);
+    } else if (skip_name(&rest, "judge")) {
+        answer_judge(rest);
     } else if (skip_name(&rest, "cover")) {
         answer_cover(rest);
     } else {

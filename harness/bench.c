@@ -40,8 +40,8 @@ static const plan PLANS[] = {
 
 enum { CIRCUITS = sizeof PLANS / sizeof PLANS[0] };
 
-/* What the calls are given: a circuit in words and as text, a state and a switch setting, w and the lengths, and for a
- * cover 512 cubes. */
+/* What the calls are given: a circuit in words and as text, a state and a switch setting, w and the lengths, for a judge the
+ * circuit's chain, and for a cover 512 cubes. */
 typedef struct {
     chudravik_counts counts;
     uint16_t table[CHUDRAVIK_MOST_TABLE_WORDS];
@@ -57,6 +57,10 @@ typedef struct {
     size_t cubes_bytes;
     size_t verdict_bytes;
     size_t settled_bytes;
+    uint8_t chained[CHUDRAVIK_MOST_CUBE_BYTES];
+    size_t chained_bytes;
+    size_t chained_cubes;
+    size_t chained_back;
     uint8_t sent[SENT_CUBES * CHUDRAVIK_RECORD_BYTES(CHUDRAVIK_MOST_LATCHES)];
     size_t sent_bytes;
     size_t sent_cubes;
@@ -159,19 +163,23 @@ static void make_record(uint8_t *record, size_t fields)
     }
 }
 
-/* The cubes of the circuit's run, each as often as the next, in an order of chance. */
+static void make_chain(request *r)
+{
+    chudravik_chain_answer chain =
+        chudravik_chain(r->counts, r->table, r->table_words, r->w, r->chained, sizeof r->chained);
+    r->chained_bytes = chain.cubes * CHUDRAVIK_RECORD_BYTES(r->counts.latches);
+    r->chained_cubes = chain.cubes;
+    r->chained_back = chain.back;
+}
+
+/* The cubes of the circuit's chain, each as often as the next, in an order of chance. */
 static void make_cover(request *r)
 {
-    static uint8_t cubes[CHUDRAVIK_MOST_CUBE_BYTES];
-    uint8_t verdict[CHUDRAVIK_RECORD_BYTES(CHUDRAVIK_MOST_LAMPS)], settled[CHUDRAVIK_RECORD_BYTES(CHUDRAVIK_MOST_LATCHES)];
     size_t bytes = CHUDRAVIK_RECORD_BYTES(r->counts.latches);
-    size_t n = chudravik_run(r->counts, r->table, r->table_words, r->w, cubes, sizeof cubes, verdict, sizeof verdict,
-                             settled, sizeof settled)
-                   .cubes;
     for (size_t k = 0; k < SENT_CUBES; k++) {
         size_t other = random_below(k + 1);
         memmove(r->sent + k * bytes, r->sent + other * bytes, bytes);
-        memcpy(r->sent + other * bytes, cubes + k % n * bytes, bytes);
+        memcpy(r->sent + other * bytes, r->chained + k % r->chained_cubes * bytes, bytes);
     }
     r->sent_cubes = SENT_CUBES;
     r->sent_bytes = SENT_CUBES * bytes;
@@ -193,6 +201,7 @@ static void make_request(const plan *p, request *r)
     r->verdict_bytes = CHUDRAVIK_RECORD_BYTES(CHUDRAVIK_MOST_LAMPS);
     r->settled_bytes = CHUDRAVIK_RECORD_BYTES(CHUDRAVIK_MOST_LATCHES);
     r->text_bytes = chudravik_write(r->counts, r->table, r->table_words, r->text, r->text_room).bytes;
+    make_chain(r);
     make_cover(r);
 }
 
@@ -231,9 +240,14 @@ static answer of_tick(uint32_t number)
     return (answer){{number}};
 }
 
-static answer of_run(chudravik_run_answer a)
+static answer of_chain(chudravik_chain_answer a)
 {
-    return (answer){{a.number, a.cubes, a.back, a.settled}};
+    return (answer){{a.number, a.cubes, a.back}};
+}
+
+static answer of_judge(chudravik_judge_answer a)
+{
+    return (answer){{a.number, a.settled}};
 }
 
 static answer of_cover(chudravik_cover_answer a)
@@ -246,9 +260,10 @@ static answer of_cover(chudravik_cover_answer a)
 #define TICK(side, r, b)                                                                                        \
     of_tick(side##_tick(r->counts, r->table, r->table_words, r->state, r->state_bytes, r->switches,             \
                         r->switches_bytes, b->next, r->settled_bytes, b->lamps, r->verdict_bytes))
-#define RUN(side, r, b)                                                                                         \
-    of_run(side##_run(r->counts, r->table, r->table_words, r->w, b->cubes, r->cubes_bytes, b->verdict,          \
-                      r->verdict_bytes, b->settled, r->settled_bytes))
+#define CHAIN(side, r, b) of_chain(side##_chain(r->counts, r->table, r->table_words, r->w, b->cubes, r->cubes_bytes))
+#define JUDGE(side, r, b)                                                                                       \
+    of_judge(side##_judge(r->counts, r->table, r->table_words, r->chained, r->chained_bytes, r->chained_cubes,  \
+                          r->chained_back, b->verdict, r->verdict_bytes, b->settled, r->settled_bytes))
 #define COVER(side, r, b)                                                                                       \
     of_cover(side##_cover(r->counts, r->table, r->table_words, r->sent, r->sent_bytes, r->sent_cubes,           \
                           b->verdict, r->verdict_bytes))
@@ -261,13 +276,30 @@ static answer of_cover(chudravik_cover_answer a)
 SIDE(library_read, READ, chudravik)
 SIDE(library_write, WRITE, chudravik)
 SIDE(library_tick, TICK, chudravik)
-SIDE(library_run, RUN, chudravik)
+SIDE(library_chain, CHAIN, chudravik)
+SIDE(library_judge, JUDGE, chudravik)
 SIDE(library_cover, COVER, chudravik)
 SIDE(c_read, READ, plain)
 SIDE(c_write, WRITE, plain)
 SIDE(c_tick, TICK, plain)
-SIDE(c_run, RUN, plain)
+SIDE(c_chain, CHAIN, plain)
+SIDE(c_judge, JUDGE, plain)
 SIDE(c_cover, COVER, plain)
+
+/* Both calls of a run: the chain, and the judge of what it left. */
+#define RUN(name, side)                                                                                         \
+    static answer name(const request *r, buffers *b)                                                            \
+    {                                                                                                           \
+        chudravik_chain_answer chain =                                                                          \
+            side##_chain(r->counts, r->table, r->table_words, r->w, b->cubes, r->cubes_bytes);                  \
+        chudravik_judge_answer judge =                                                                          \
+            side##_judge(r->counts, r->table, r->table_words, b->cubes, r->cubes_bytes, chain.cubes, chain.back, \
+                         b->verdict, r->verdict_bytes, b->settled, r->settled_bytes);                           \
+        return (answer){{judge.number, chain.cubes, chain.back, judge.settled}};                                \
+    }
+
+RUN(library_run, chudravik)
+RUN(c_run, plain)
 
 typedef struct {
     const char *name;
@@ -279,7 +311,9 @@ static const pair READING = {"read", library_read, c_read};
 static const pair READING_OFFICE = {"read13", library_read, c_read};
 static const pair WRITING = {"write", library_write, c_write};
 static const pair TICKING = {"tick", library_tick, c_tick};
-static const pair RUNNING = {"run", library_run, c_run};
+static const pair CHAINING = {"chain", library_chain, c_chain};
+static const pair JUDGING = {"judge", library_judge, c_judge};
+static const pair RUNNING = {"both", library_run, c_run};
 static const pair COVERING = {"cover", library_cover, c_cover};
 
 /* ---- equal answers ---- */
@@ -346,7 +380,7 @@ static void check_texts(const request *sound)
 /* The refusals of every call that is given a circuit. */
 static void check_circuits(const request *sound)
 {
-    static const pair *const GIVEN[] = {&WRITING, &TICKING, &RUNNING, &COVERING};
+    static const pair *const GIVEN[] = {&WRITING, &TICKING, &CHAINING, &JUDGING, &COVERING};
     static request r;
     for (size_t i = 0; i < sizeof GIVEN / sizeof GIVEN[0]; i++) {
         r = *sound;
@@ -362,7 +396,8 @@ static void check_circuits(const request *sound)
     r = *sound;
     r.counts.lamps = 0;
     r.table_words = 0;
-    expect(&RUNNING, &r, CHUDRAVIK_NO_LAMPS);
+    expect(&CHAINING, &r, CHUDRAVIK_NO_LAMPS);
+    expect(&JUDGING, &r, CHUDRAVIK_NO_LAMPS);
 }
 
 static void check_lengths(const request *sound)
@@ -377,16 +412,38 @@ static void check_lengths(const request *sound)
     r = *sound;
     r.settled_bytes = 0;
     expect(&TICKING, &r, CHUDRAVIK_TOO_SHORT);
-    expect(&RUNNING, &r, CHUDRAVIK_TOO_SHORT);
+    expect(&JUDGING, &r, CHUDRAVIK_TOO_SHORT);
     r.cubes_bytes = 0;
-    expect(&RUNNING, &r, CHUDRAVIK_CUBE_BUFFER);
+    expect(&CHAINING, &r, CHUDRAVIK_CUBE_BUFFER);
     r.cubes_bytes = CHUDRAVIK_MOST_CUBE_BYTES + 1;
-    expect(&RUNNING, &r, CHUDRAVIK_CUBE_BUFFER);
+    expect(&CHAINING, &r, CHUDRAVIK_CUBE_BUFFER);
     r.w = CHUDRAVIK_MOST_INTERVAL + 1;
-    expect(&RUNNING, &r, CHUDRAVIK_INTERVAL);
+    expect(&CHAINING, &r, CHUDRAVIK_INTERVAL);
     r = *sound;
     r.cubes_bytes = 3 * CHUDRAVIK_RECORD_BYTES(r.counts.latches);
-    expect(&RUNNING, &r, CHUDRAVIK_NO_ROOM);
+    expect(&CHAINING, &r, CHUDRAVIK_NO_ROOM);
+}
+
+static void check_chains(const request *sound)
+{
+    static request r;
+    r = *sound;
+    r.chained_cubes++;
+    expect(&JUDGING, &r, CHUDRAVIK_TOO_SHORT);
+    r = *sound;
+    r.chained[r.chained_bytes - 1] |= 0x03;
+    expect(&JUDGING, &r, CHUDRAVIK_RECORD);
+    r = *sound;
+    r.verdict_bytes = 0;
+    expect(&JUDGING, &r, CHUDRAVIK_TOO_SHORT);
+    r.chained_back = r.chained_cubes;
+    expect(&JUDGING, &r, CHUDRAVIK_NOT_A_CHAIN);
+    r = *sound;
+    r.chained_cubes--; /* the last but one does not go back to where the last does */
+    expect(&JUDGING, &r, CHUDRAVIK_NOT_A_CHAIN);
+    r = *sound;
+    memset(r.chained, 0, CHUDRAVIK_RECORD_BYTES(r.counts.latches)); /* covers the start, and is not it */
+    expect(&JUDGING, &r, CHUDRAVIK_NOT_A_CHAIN);
 }
 
 static void check_records(const request *sound)
@@ -518,7 +575,7 @@ static void print_circuit(size_t i)
 {
     const chudravik_counts *c = &requests[i].counts;
     const size_t *run = runs[i].numbers;
-    printf("%-8s I %zu, L %zu, O %zu, A %zu; text of %zu bytes; run with w = %d: n %zu, j %zu, s %zu\n", PLANS[i].name,
+    printf("%-8s I %zu, L %zu, O %zu, A %zu; text of %zu bytes; with w = %d: n %zu, j %zu, s %zu\n", PLANS[i].name,
            c->inputs, c->latches, c->lamps, c->gates, requests[i].text_bytes, INTERVAL, run[1], run[2], run[3]);
 }
 
@@ -529,6 +586,8 @@ static void check_all(void)
         expect(&READING, &requests[i], CHUDRAVIK_ACCEPTED);
         expect(&WRITING, &requests[i], CHUDRAVIK_ACCEPTED);
         expect(&TICKING, &requests[i], CHUDRAVIK_ACCEPTED);
+        expect(&CHAINING, &requests[i], CHUDRAVIK_ACCEPTED);
+        expect(&JUDGING, &requests[i], CHUDRAVIK_ACCEPTED);
         runs[i] = expect(&RUNNING, &requests[i], CHUDRAVIK_ACCEPTED);
         expect(&COVERING, &requests[i], CHUDRAVIK_ACCEPTED);
         print_circuit(i);
@@ -541,16 +600,21 @@ static void check_all(void)
     check_circuits(&requests[0]);
     check_lengths(&requests[0]);
     check_records(&requests[0]);
+    check_chains(&requests[0]);
     check_covers(&requests[0]);
     printf("equal answers and bytes from both sides\n\n");
 }
 
+/* Keeps the library's times where they are asked for. */
 static void report(const pair *p, const request *given, size_t count, double (*work)(size_t), const char *of,
-                   size_t rounds)
+                   size_t rounds, double *kept)
 {
     times before = {0, 0};
     for (size_t i = 0; i < count; i++) {
         times t = measure(p, &given[i], rounds);
+        if (kept != NULL) {
+            kept[i] = t.library;
+        }
         printf("%-6s %-8s %12.1f %12.1f %7.3f", p->name, PLANS[i].name, t.library, t.plain, t.library / t.plain);
         if (i > 0) {
             printf("   x%-8.1f x%-8.1f x%.1f %s", t.library / before.library, t.plain / before.plain,
@@ -582,11 +646,19 @@ int main(int argc, char **argv)
     check_all();
     printf("best of %zu rounds, in nanoseconds; growth from the circuit above\n", rounds);
     printf("call   circuit       library        plain   ratio   library   plain     of what it goes over\n");
-    report(&READING, requests, CIRCUITS, bytes_of_text, "bytes of text", rounds);
-    report(&READING_OFFICE, saved, SAVED, bytes_of_text, "bytes of text", rounds);
-    report(&WRITING, requests, CIRCUITS, bytes_of_text, "bytes of text", rounds);
-    report(&TICKING, requests, CIRCUITS, words_of_table, "words of table", rounds);
-    report(&RUNNING, requests, CIRCUITS, words_times_cubes, "words x cubes", rounds);
-    report(&COVERING, requests, CIRCUITS, words_times_sent, "words x 512 cubes", rounds);
+    report(&READING, requests, CIRCUITS, bytes_of_text, "bytes of text", rounds, NULL);
+    report(&READING_OFFICE, saved, SAVED, bytes_of_text, "bytes of text", rounds, NULL);
+    report(&WRITING, requests, CIRCUITS, bytes_of_text, "bytes of text", rounds, NULL);
+    report(&TICKING, requests, CIRCUITS, words_of_table, "words of table", rounds, NULL);
+    double judge[CIRCUITS], both[CIRCUITS];
+    report(&CHAINING, requests, CIRCUITS, words_times_cubes, "words x cubes", rounds, NULL);
+    report(&JUDGING, requests, CIRCUITS, words_times_cubes, "words x cubes", rounds, judge);
+    report(&RUNNING, requests, CIRCUITS, words_times_cubes, "words x cubes", rounds, both);
+    report(&COVERING, requests, CIRCUITS, words_times_sent, "words x 512 cubes", rounds, NULL);
+    printf("\nwith a lamp added, the judge alone for both calls:");
+    for (size_t i = 0; i < CIRCUITS; i++) {
+        printf(" %s %.2f", PLANS[i].name, judge[i] / both[i]);
+    }
+    printf("\n");
     return 0;
 }

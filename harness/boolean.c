@@ -1,11 +1,13 @@
 /* No verdict is contradicted by random Boolean simulation: boolean TICKS [SEED] [FILE..]
  *
- * Reads the given circuits and random ones of its own, runs each with several intervals and buffers, and where a run is
- * closed lets 64 executions of the circuit go in plain Booleans, with random switches, each from a random state that the
- * resets allow. At each tick t the lamps must
+ * Reads the given circuits and random ones of its own, chains and judges each with several intervals and buffers, and where
+ * a chain is closed lets 64 executions of the circuit go in plain Booleans, with random switches, each from a random state
+ * that the resets allow. At each tick t the lamps must
  * agree with the verdict, from tick j on the latches with the settled record, and the state must lie inside cube t, or
- * from tick n on inside cube j + (t - j) mod (n - j). The same of covers: the cubes of a closed run in another order,
- * which must be accepted with the run's verdict; the one cube that comes of merging states until nothing is new; and a cube
+ * from tick n on inside cube j + (t - j) mod (n - j). The same of chains that no call made: one with fields forgotten, and
+ * more of them until each next state lies inside what follows, which must be accepted; and one with a single field
+ * forgotten, which may be refused. The same of covers: the cubes of a closed chain in another order,
+ * which must be accepted with the chain's verdict; the one cube that comes of merging states until nothing is new; and a cube
  * for each value of a latch, which may be refused. At each tick the state must lie inside one of the cubes, and the lamps
  * agree with the verdict. TICKS is how many ticks are done at least, each execution's
  * counted; half of them go to the files. Exits 1, with the circuit's text, on a contradiction; and where TICKS is a
@@ -21,9 +23,12 @@
 #include "chance.h"
 #include "chudravik.h"
 
-enum { EXECUTIONS = 64, RUNS = 4, HINTS = 64, MANY_TICKS = 1000000, LEAST_OF_A_KIND = 100 };
+/* A run for each interval, and one for each kind of chain that no call made. */
+enum { INTERVALS = 4, MENDED = INTERVALS, ROUGH, RUNS };
 
-static const size_t intervals[RUNS] = {0, 1, 2, 16};
+enum { EXECUTIONS = 64, HINTS = 64, MANY_TICKS = 1000000, LEAST_OF_A_KIND = 100, MOST_BLURRED = 300 };
+
+static const size_t intervals[INTERVALS] = {0, 1, 2, 16};
 
 struct circuit {
     chudravik_counts counts;
@@ -36,7 +41,8 @@ struct circuit {
 struct run {
     size_t w;
     size_t cubes_bytes;
-    chudravik_run_answer answer;
+    bool closed;
+    size_t n, j, s;
     uint8_t cubes[CHUDRAVIK_MOST_CUBE_BYTES];
     uint8_t verdict[CHUDRAVIK_RECORD_BYTES(CHUDRAVIK_MOST_LAMPS)];
     uint8_t settled[CHUDRAVIK_RECORD_BYTES(CHUDRAVIK_MOST_LATCHES)];
@@ -49,10 +55,10 @@ struct sent {
     uint8_t verdict[CHUDRAVIK_RECORD_BYTES(CHUDRAVIK_MOST_LAMPS)];
 };
 
-enum { OF_RUN, OF_MERGE, OF_LATCH, COVERS };
+enum { OF_CHAIN, OF_MERGE, OF_LATCH, COVERS };
 
 static struct {
-    uint64_t circuits, files, runs, closed, no_room, never, always, open, open_seen_both, settled, free_starts, ticks;
+    uint64_t circuits, files, runs, closed, no_room, mended, rough, rough_refused, never, always, open, open_seen_both, settled, free_starts, ticks;
     uint64_t accepted[COVERS], refused, sent_never, sent_always;
 } sum;
 
@@ -80,7 +86,7 @@ static _Noreturn void contradicted(const struct run *run, const char *what, uint
     while (execution < EXECUTIONS - 1 && (strays >> execution & 1) == 0)
         execution++;
     fprintf(stderr, "boolean: %s contradicted at tick %" PRIu64 " by execution %d (w %zu, n %zu, j %zu, s %zu)\n", what,
-            t, execution, run->w, run->answer.cubes, run->answer.back, run->answer.settled);
+            t, execution, run->w, run->n, run->j, run->s);
     fwrite(circuit.text, 1, circuit.text_bytes, stderr);
     exit(1);
 }
@@ -152,7 +158,7 @@ static void tick(void)
     memcpy(state(), next, circuit.counts.latches * sizeof next[0]);
 }
 
-/* ---- the promises of a closed run ---- */
+/* ---- the promises of a judged chain ---- */
 
 /* The executions whose values lie outside the record: all of them where it has the pair 11. */
 static uint64_t outside(const uint8_t *record, const uint64_t *values, size_t fields)
@@ -167,24 +173,24 @@ static uint64_t outside(const uint8_t *record, const uint64_t *values, size_t fi
     return strays;
 }
 
-static size_t cube_of_tick(chudravik_run_answer answer, uint64_t t)
+static size_t cube_of_tick(const struct run *run, uint64_t t)
 {
-    if (t < answer.cubes)
+    if (t < run->n)
         return (size_t)t;
-    return answer.back + (size_t)((t - answer.back) % (answer.cubes - answer.back));
+    return run->j + (size_t)((t - run->j) % (run->n - run->j));
 }
 
 static void check_tick(const struct run *run, uint64_t t)
 {
     size_t latches = circuit.counts.latches;
-    const uint8_t *cube = run->cubes + cube_of_tick(run->answer, t) * CHUDRAVIK_RECORD_BYTES(latches);
+    const uint8_t *cube = run->cubes + cube_of_tick(run, t) * CHUDRAVIK_RECORD_BYTES(latches);
     uint64_t strays = outside(cube, state(), latches);
     if (strays)
         contradicted(run, "cube", t, strays);
     strays = outside(run->verdict, lamps, circuit.counts.lamps);
     if (strays)
         contradicted(run, "verdict", t, strays);
-    strays = t < run->answer.back ? 0 : outside(run->settled, state(), latches);
+    strays = t < run->j ? 0 : outside(run->settled, state(), latches);
     if (strays)
         contradicted(run, "settled record", t, strays);
 }
@@ -202,11 +208,6 @@ static void check_cover(const struct sent *sent, uint64_t t)
         cover_contradicted(sent, "the verdict", t);
 }
 
-static int is_closed(const struct run *run)
-{
-    return run->answer.number == CHUDRAVIK_ACCEPTED;
-}
-
 static void simulate(uint64_t ticks, uint64_t *seen_lit, uint64_t *seen_dark)
 {
     start();
@@ -218,7 +219,7 @@ static void simulate(uint64_t ticks, uint64_t *seen_lit, uint64_t *seen_dark)
             seen_dark[i] |= ~lamps[i];
         }
         for (size_t r = 0; r < RUNS; r++)
-            if (is_closed(&runs[r]))
+            if (runs[r].closed)
                 check_tick(&runs[r], t);
         for (size_t s = 0; s < COVERS; s++)
             if (covers[s].accepted)
@@ -235,7 +236,7 @@ static size_t promised_bytes(size_t w)
     return (w * circuit.counts.latches + 1) * CHUDRAVIK_RECORD_BYTES(circuit.counts.latches);
 }
 
-/* Without widening a run may take many cubes, and its search the square of that: the full buffer is seldom lent. */
+/* Without widening a chain may take many cubes, and its search the square of that: the full buffer is seldom lent. */
 static size_t choose_cubes_bytes(size_t w)
 {
     size_t record = CHUDRAVIK_RECORD_BYTES(circuit.counts.latches);
@@ -254,32 +255,130 @@ static size_t known_fields(const uint8_t *record, size_t fields)
     return known;
 }
 
-static void check_answer(const struct run *run)
+static void check_chain(const struct run *run, chudravik_chain_answer answer)
 {
-    chudravik_run_answer answer = run->answer;
     size_t room = run->cubes_bytes / CHUDRAVIK_RECORD_BYTES(circuit.counts.latches);
     if (answer.number != CHUDRAVIK_ACCEPTED && answer.number != CHUDRAVIK_NO_ROOM)
-        fail("run", "refused", answer.number);
+        fail("chain", "refused", answer.number);
     if (answer.number == CHUDRAVIK_NO_ROOM && run->w != 0 && promised_bytes(run->w) <= run->cubes_bytes)
-        fail("run", "not closed within w x latches + 1 cubes", answer.number);
-    if (!is_closed(run))
-        return;
-    if (answer.back >= answer.cubes || answer.cubes > room)
-        fail("run", "closed with n and j that cannot be", answer.number);
-    if (answer.settled != known_fields(run->settled, circuit.counts.latches))
-        fail("run", "s is not the count of the settled record", answer.number);
+        fail("chain", "not closed within w x latches + 1 cubes", answer.number);
+    if (answer.number == CHUDRAVIK_ACCEPTED && (answer.back >= answer.cubes || answer.cubes > room))
+        fail("chain", "closed with n and j that cannot be", answer.number);
+}
+
+/* Hands the cubes to the judge; a run whose chain it refuses is not closed. */
+static uint32_t judge_run(struct run *run)
+{
+    chudravik_judge_answer answer =
+        chudravik_judge(circuit.counts, circuit.table, circuit.words, run->cubes, sizeof run->cubes, run->n, run->j,
+                        run->verdict, sizeof run->verdict, run->settled, sizeof run->settled);
+    run->closed = answer.number == CHUDRAVIK_ACCEPTED;
+    run->s = answer.settled;
+    if (run->closed && run->s != known_fields(run->settled, circuit.counts.latches))
+        fail("judge", "s is not the count of the settled record", answer.number);
+    return answer.number;
 }
 
 static void do_run(struct run *run, size_t w)
 {
     run->w = w;
     run->cubes_bytes = choose_cubes_bytes(w);
-    run->answer = chudravik_run(circuit.counts, circuit.table, circuit.words, w, run->cubes, run->cubes_bytes,
-                                run->verdict, sizeof run->verdict, run->settled, sizeof run->settled);
-    check_answer(run);
+    chudravik_chain_answer answer =
+        chudravik_chain(circuit.counts, circuit.table, circuit.words, w, run->cubes, run->cubes_bytes);
+    check_chain(run, answer);
+    run->n = answer.cubes;
+    run->j = answer.back;
+    run->closed = false;
+    if (answer.number == CHUDRAVIK_ACCEPTED && judge_run(run) != CHUDRAVIK_ACCEPTED)
+        fail("judge", "refused what the chain made", 0);
     sum.runs++;
-    sum.closed += is_closed(run);
-    sum.no_room += !is_closed(run);
+    sum.closed += run->closed;
+    sum.no_room += !run->closed;
+}
+
+/* ---- chains that no call made ---- */
+
+static const uint8_t no_switch_known[CHUDRAVIK_RECORD_BYTES(CHUDRAVIK_MOST_INPUTS)];
+
+static void next_of(const uint8_t *cube, uint8_t next[CHUDRAVIK_RECORD_BYTES(CHUDRAVIK_MOST_LATCHES)])
+{
+    uint8_t lit[CHUDRAVIK_RECORD_BYTES(CHUDRAVIK_MOST_LAMPS)];
+    uint32_t number = chudravik_tick(circuit.counts, circuit.table, circuit.words, cube,
+                                     CHUDRAVIK_RECORD_BYTES(circuit.counts.latches), no_switch_known,
+                                     sizeof no_switch_known, next, CHUDRAVIK_RECORD_BYTES(CHUDRAVIK_MOST_LATCHES), lit,
+                                     sizeof lit);
+    if (number != CHUDRAVIK_ACCEPTED)
+        fail("tick", "refused", number);
+}
+
+/* Forgets in a cube what another does not have alike; answers whether there was anything. */
+static bool forget(uint8_t *cube, const uint8_t *other)
+{
+    bool forgot = false;
+    for (size_t i = 0; i < CHUDRAVIK_RECORD_BYTES(circuit.counts.latches); i++) {
+        forgot |= (cube[i] & other[i]) != cube[i];
+        cube[i] &= other[i];
+    }
+    return forgot;
+}
+
+static void forget_field(struct run *run)
+{
+    size_t record = CHUDRAVIK_RECORD_BYTES(circuit.counts.latches), latch = below(circuit.counts.latches);
+    uint8_t *cube = run->cubes + (1 + below(run->n - 1)) * record;
+    if (circuit.counts.latches > 0)
+        cube[latch / 4] &= (uint8_t)~(3u << (6 - 2 * (latch % 4)));
+}
+
+/* A copy of a chain that goes back to a later cube than cube 0, which has to stay the resets. */
+static bool copy_chain(struct run *to, const struct run *from)
+{
+    size_t record = CHUDRAVIK_RECORD_BYTES(circuit.counts.latches);
+    if (!from->closed || from->n > MOST_BLURRED || (from->n + 1) * record > sizeof to->cubes)
+        return false;
+    *to = *from;
+    to->closed = false;
+    if (from->j == 0) {
+        memcpy(to->cubes + from->n * record, from->cubes, record);
+        to->n = from->n + 1;
+        to->j = 1;
+    }
+    return true;
+}
+
+static void mend(struct run *run)
+{
+    size_t record = CHUDRAVIK_RECORD_BYTES(circuit.counts.latches);
+    uint8_t next[CHUDRAVIK_RECORD_BYTES(CHUDRAVIK_MOST_LATCHES)];
+    for (bool changed = true; changed;) {
+        changed = false;
+        for (size_t k = 0; k < run->n; k++) {
+            next_of(run->cubes + k * record, next);
+            changed |= forget(run->cubes + (k + 1 < run->n ? k + 1 : run->j) * record, next);
+        }
+    }
+}
+
+static void blur_chains(const struct run *run)
+{
+    runs[MENDED].closed = runs[ROUGH].closed = false;
+    if (copy_chain(&runs[MENDED], run)) {
+        for (size_t times = 1 + below(3); times > 0; times--)
+            forget_field(&runs[MENDED]);
+        mend(&runs[MENDED]);
+        uint32_t number = judge_run(&runs[MENDED]);
+        if (number != CHUDRAVIK_ACCEPTED)
+            fail("judge", "refused a chain that was blurred and mended", number);
+        sum.mended++;
+    }
+    if (copy_chain(&runs[ROUGH], run)) {
+        forget_field(&runs[ROUGH]);
+        uint32_t number = judge_run(&runs[ROUGH]);
+        if (number != CHUDRAVIK_ACCEPTED && number != CHUDRAVIK_NOT_A_CHAIN)
+            fail("judge", "refused a blurred chain otherwise than by 19", number);
+        sum.rough += number == CHUDRAVIK_ACCEPTED;
+        sum.rough_refused += number != CHUDRAVIK_ACCEPTED;
+    }
 }
 
 static void count_checked(const struct run *run, const uint64_t *seen_lit, const uint64_t *seen_dark)
@@ -291,7 +390,7 @@ static void count_checked(const struct run *run, const uint64_t *seen_lit, const
         sum.open += field == CHUDRAVIK_UNKNOWN;
         sum.open_seen_both += field == CHUDRAVIK_UNKNOWN && seen_lit[i] && seen_dark[i];
     }
-    sum.settled += run->answer.settled;
+    sum.settled += run->s;
 }
 
 /* ---- covers ---- */
@@ -316,16 +415,16 @@ static void count_cover(size_t s)
     }
 }
 
-/* The cubes of a run, from the last to the first. */
-static void send_run(struct sent *sent, const struct run *run)
+/* The cubes of a chain, from the last to the first. */
+static void send_chain(struct sent *sent, const struct run *run)
 {
     size_t record = CHUDRAVIK_RECORD_BYTES(circuit.counts.latches);
-    sent->n = run->answer.cubes;
+    sent->n = run->n;
     for (size_t k = 0; k < sent->n; k++)
         memcpy(sent->cubes + (sent->n - 1 - k) * record, run->cubes + k * record, record);
     if (send_cover(sent) != CHUDRAVIK_ACCEPTED ||
         memcmp(sent->verdict, run->verdict, CHUDRAVIK_RECORD_BYTES(circuit.counts.lamps)) != 0)
-        fail("cover", "the cubes of a closed run are refused, or judged otherwise", 0);
+        fail("cover", "the cubes of a closed chain are refused, or judged otherwise", 0);
 }
 
 static unsigned start_field(uint16_t reset)
@@ -336,24 +435,14 @@ static unsigned start_field(uint16_t reset)
 /* What a state and all that follow have in common, with all switches unknown. */
 static void send_merge(struct sent *sent)
 {
-    uint8_t next[CHUDRAVIK_RECORD_BYTES(CHUDRAVIK_MOST_LATCHES)], lit[CHUDRAVIK_RECORD_BYTES(CHUDRAVIK_MOST_LAMPS)];
-    static const uint8_t unknown[CHUDRAVIK_RECORD_BYTES(CHUDRAVIK_MOST_INPUTS)];
+    uint8_t next[CHUDRAVIK_RECORD_BYTES(CHUDRAVIK_MOST_LATCHES)];
     size_t record = CHUDRAVIK_RECORD_BYTES(circuit.counts.latches);
-    bool changed = true;
     memset(sent->cubes, 0, record);
     for (size_t i = 0; i < circuit.counts.latches; i++)
         sent->cubes[i / 4] |= (uint8_t)(start_field(circuit.table[2 * i + 1]) << (6 - 2 * (i % 4)));
-    while (changed) {
-        uint32_t number = chudravik_tick(circuit.counts, circuit.table, circuit.words, sent->cubes, record, unknown,
-                                         sizeof unknown, next, sizeof next, lit, sizeof lit);
-        if (number != CHUDRAVIK_ACCEPTED)
-            fail("tick", "refused", number);
-        changed = false;
-        for (size_t k = 0; k < record; k++) {
-            changed |= (sent->cubes[k] & next[k]) != sent->cubes[k];
-            sent->cubes[k] &= next[k];
-        }
-    }
+    do
+        next_of(sent->cubes, next);
+    while (forget(sent->cubes, next));
     sent->n = 1;
     uint32_t number = send_cover(sent);
     if (number != CHUDRAVIK_ACCEPTED)
@@ -370,12 +459,11 @@ static void send_latch(struct sent *sent)
     send_cover(sent);
 }
 
-static void send_covers(void)
+static void send_covers(const struct run *run)
 {
-    const struct run *run = &runs[below(RUNS)];
-    covers[OF_RUN].accepted = covers[OF_LATCH].accepted = false;
-    if (is_closed(run))
-        send_run(&covers[OF_RUN], run);
+    covers[OF_CHAIN].accepted = covers[OF_LATCH].accepted = false;
+    if (run->closed)
+        send_chain(&covers[OF_CHAIN], run);
     send_merge(&covers[OF_MERGE]);
     if (circuit.counts.latches > 0)
         send_latch(&covers[OF_LATCH]);
@@ -384,24 +472,26 @@ static void send_covers(void)
             count_cover(s);
 }
 
-/* Goes at least twice through the longest closed run, so that each cube of its round is met again. */
+/* Goes at least twice through the longest closed chain, so that each cube of its round is met again. */
 static void examine(uint64_t least_ticks)
 {
     uint64_t seen_lit[CHUDRAVIK_MOST_LAMPS] = {0}, seen_dark[CHUDRAVIK_MOST_LAMPS] = {0};
     uint64_t longest = 0;
     sum.circuits++;
-    for (size_t r = 0; r < RUNS; r++) {
+    for (size_t r = 0; r < INTERVALS; r++)
         do_run(&runs[r], intervals[r]);
-        if (is_closed(&runs[r]) && runs[r].answer.cubes > longest)
-            longest = runs[r].answer.cubes;
-    }
-    send_covers();
+    const struct run *run = &runs[below(INTERVALS)];
+    blur_chains(run);
+    send_covers(run);
+    for (size_t r = 0; r < RUNS; r++)
+        if (runs[r].closed && runs[r].n > longest)
+            longest = runs[r].n;
     if (longest == 0)
         return;
     uint64_t ticks = 2 * longest + 64;
     simulate(ticks < least_ticks ? least_ticks : ticks, seen_lit, seen_dark);
     for (size_t r = 0; r < RUNS; r++)
-        if (is_closed(&runs[r]))
+        if (runs[r].closed)
             count_checked(&runs[r], seen_lit, seen_dark);
 }
 
@@ -683,14 +773,16 @@ static int number_of(const char *word, uint64_t *number)
 static void print_sum(void)
 {
     printf("circuits %" PRIu64 ", of them from files %" PRIu64 "\n", sum.circuits, sum.files);
-    printf("runs %" PRIu64 ": closed %" PRIu64 ", no room %" PRIu64 "\n", sum.runs, sum.closed, sum.no_room);
+    printf("chains %" PRIu64 ": closed %" PRIu64 ", no room %" PRIu64 "\n", sum.runs, sum.closed, sum.no_room);
+    printf("chains that no call made: mended %" PRIu64 ", rough %" PRIu64 ", refused %" PRIu64 "\n", sum.mended, sum.rough,
+           sum.rough_refused);
     printf("verdicts: never %" PRIu64 ", always %" PRIu64 ", open %" PRIu64 " (seen both lit and dark %" PRIu64 ")\n",
            sum.never, sum.always, sum.open, sum.open_seen_both);
     printf("settled latches %" PRIu64 "\n", sum.settled);
     printf("latches started by chance %" PRIu64 "\n", sum.free_starts);
-    printf("covers: of a run %" PRIu64 ", merged %" PRIu64 ", by a latch %" PRIu64 ", refused %" PRIu64
+    printf("covers: of a chain %" PRIu64 ", merged %" PRIu64 ", by a latch %" PRIu64 ", refused %" PRIu64
            "; never %" PRIu64 ", always %" PRIu64 "\n",
-           sum.accepted[OF_RUN], sum.accepted[OF_MERGE], sum.accepted[OF_LATCH], sum.refused, sum.sent_never,
+           sum.accepted[OF_CHAIN], sum.accepted[OF_MERGE], sum.accepted[OF_LATCH], sum.refused, sum.sent_never,
            sum.sent_always);
     printf("ticks %" PRIu64 "\n", sum.ticks);
 }
@@ -716,9 +808,8 @@ int main(int argc, char **argv)
     print_sum();
     if (ticks >= MANY_TICKS &&
         (sum.never < LEAST_OF_A_KIND || sum.always < LEAST_OF_A_KIND || sum.settled < LEAST_OF_A_KIND ||
-         sum.free_starts < LEAST_OF_A_KIND ||
-
-         sum.sent_never < LEAST_OF_A_KIND || sum.sent_always < LEAST_OF_A_KIND ||
+         sum.free_starts < LEAST_OF_A_KIND || sum.mended < LEAST_OF_A_KIND || sum.rough < LEAST_OF_A_KIND ||
+         sum.rough_refused < LEAST_OF_A_KIND || sum.sent_never < LEAST_OF_A_KIND || sum.sent_always < LEAST_OF_A_KIND ||
          sum.accepted[OF_LATCH] < LEAST_OF_A_KIND || sum.refused < LEAST_OF_A_KIND)) {
         fprintf(stderr, "boolean: too few verdicts of a kind\n");
         return 1;

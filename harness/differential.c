@@ -1011,9 +1011,12 @@ static bool can_give(enum call call, size_t outcome)
         return outcome == 0 || outcome == 3 || outcome == 11 || outcome == TEN_TABLE || outcome == TEN_RESULT;
     case TICK:
         return outcome == 0 || outcome == 3 || outcome == 11 || outcome == 14 || outcome >= TEN_TABLE;
-    case RUN:
+    case CHAIN:
         return outcome == 0 || outcome == 3 || (outcome >= 11 && outcome <= 13) || outcome == 15 ||
-               outcome == 16 || outcome == TEN_TABLE || outcome == TEN_RESULT;
+               outcome == 16 || outcome == TEN_TABLE;
+    case JUDGE:
+        return outcome == 0 || outcome == 3 || outcome == 11 || outcome == 14 || outcome == 16 || outcome == 19 ||
+               outcome >= TEN_TABLE;
     default:
         return outcome == 0 || outcome == 3 || outcome == 11 || outcome == 14 ||
                (outcome >= 16 && outcome <= 18) || outcome >= TEN_TABLE;
@@ -1035,16 +1038,25 @@ enum sight {
     CLOSED_FULL,
     CLOSED_LATER,
     CLOSED_WIDENED,
+    UNKNOWN_START,
+    JUDGED_OWN,
+    JUDGED_WITH_LAMP,
+    JUDGED_UNROLLED,
+    JUDGED_BLURRED,
+    JUDGED_LONG,
     SOME_SETTLED,
     SOME_NEVER,
     SOME_ALWAYS,
-    UNKNOWN_START,
+    NO_CHAIN_FIELD,
+    NO_CHAIN_SHORT,
+    NO_CHAIN_BACK,
+    NO_CHAIN_START,
     LARGEST_CIRCUIT,
     LONGEST_WRITTEN,
     BOOLEAN_TICK,
     TERNARY_TICK,
     READ_BACK,
-    COVER_OF_A_RUN,
+    COVER_OF_A_CHAIN,
     COVER_OF_OTHERS,
     COVER_LONG,
     COVER_NEVER,
@@ -1054,21 +1066,30 @@ enum sight {
 };
 
 static const char *const sight_names[SIGHTS] = {
-    "runs closed with 100 cubes or more",
-    "runs refused with 15 after 100 cubes or more",
-    "runs closed with no room left",
-    "runs closed back to a later cube than cube 0",
-    "runs closed after widening",
-    "runs with settled latches",
-    "runs with a lamp that never lights",
-    "runs with a lamp that is always lit",
-    "runs closed from a latch without a start value",
+    "chains closed with 100 cubes or more",
+    "chains refused with 15 after 100 cubes or more",
+    "chains closed with no room left",
+    "chains closed back to a later cube than cube 0",
+    "chains closed after widening",
+    "chains closed from a latch without a start value",
+    "chains judged as they were made",
+    "chains judged with lamps or gates added behind them",
+    "chains judged with a round more than they were made with",
+    "chains judged that were blurred by hand",
+    "chains judged with 50 cubes or more",
+    "chains judged with settled latches",
+    "chains judged with a lamp that never lights",
+    "chains judged with a lamp that is always lit",
+    "chains refused with 19 after a change of one field",
+    "chains refused with 19 that were cut short",
+    "chains refused with 19 for another j",
+    "chains refused with 19 for another start",
     "accepted calls with every count at its ceiling",
     "texts of 58,415 bytes written",
     "ticks without X",
     "ticks with X",
     "texts written and read back alike",
-    "covers accepted that a run's cubes were made to",
+    "covers accepted that a chain's cubes were made to",
     "covers accepted that another method made",
     "covers accepted with 50 cubes or more",
     "covers accepted with a lamp that never lights",
@@ -1124,7 +1145,7 @@ static void try_read(circuit *c)
 {
     static text t;
     make_circuit(c, 15);
-    twice_begin(&hand, READ, c->counts, 0);
+    twice_begin(&hand, READ, c->counts, (numbers){0});
     make_text(&t, c);
     lend_given(TEXT, t.byte, t.count);
     lend_noise(TABLE, 2 * table_length_for(c));
@@ -1162,7 +1183,7 @@ static void try_read_any(circuit *c)
 {
     static text t;
     make_circuit(c, 15);
-    twice_begin(&hand, READ_ANY, c->counts, 0);
+    twice_begin(&hand, READ_ANY, c->counts, (numbers){0});
     if (chance(8))
         turn_back(c);
     if (chance(8))
@@ -1189,7 +1210,7 @@ static void try_write(circuit *c)
 {
     make_circuit(c, 15);
     chudravik_counts counts = handed_counts(c);
-    twice_begin(&hand, WRITE, counts, 0);
+    twice_begin(&hand, WRITE, counts, (numbers){0});
     lend_table(c);
     lend_noise(TEXT, text_length_for(c));
     make_call();
@@ -1227,7 +1248,7 @@ static void try_tick(circuit *c)
     size_t inputs = fields_for(counts.inputs, c->counts.inputs, INPUTS_CEILING);
     size_t latches = fields_for(counts.latches, c->counts.latches, LATCHES_CEILING);
     size_t lamps = fields_for(counts.lamps, c->counts.lamps, LAMPS_CEILING);
-    twice_begin(&hand, TICK, counts, 0);
+    twice_begin(&hand, TICK, counts, (numbers){0});
     lend_table(c);
     lend_record(STATE, latches);
     lend_record(SWITCHES, inputs);
@@ -1249,15 +1270,13 @@ static size_t interval(void)
     return ONE_OF(0, 0, 0, 0, 1, 2, 3, 16, 4 + any % 37, 40 + any % 261, 999, 1000, any);
 }
 
-/* How many cubes the run would store, or fill all room with. */
+/* How many cubes the chain would store, or fill all room with. */
 static size_t cubes_wanted(const circuit *c, size_t w)
 {
     static uint16_t word[WORDS_CEILING];
-    static uint8_t cubes[CUBES_CEILING], verdict[LAMPS_CEILING], settled[LATCHES_CEILING];
+    static uint8_t cubes[CUBES_CEILING];
     lay_words(c, word);
-    return simulate_run(c->counts, word, WORDS_CEILING, w, cubes, sizeof cubes, verdict, sizeof verdict, settled,
-                        sizeof settled)
-        .cubes;
+    return simulate_chain(c->counts, word, WORDS_CEILING, w, cubes, sizeof cubes).cubes;
 }
 
 static size_t cubes_length(const circuit *c, size_t w, size_t record)
@@ -1285,36 +1304,49 @@ static bool has_pair(const uint8_t *record, size_t fields, unsigned pair)
     return false;
 }
 
-static void see_run(chudravik_counts counts, size_t w, const answer *run)
+static void see_chain(chudravik_counts counts, size_t w, const answer *chain)
 {
-    bool closed = run->number == 0;
-    size_t record = record_bytes(counts.latches);
-    see(LONG_CLOSED, closed && run->cubes >= 100);
-    see(LONG_NO_ROOM, run->number == 15 && run->cubes >= 100);
-    if (run->cubes > most_cubes)
-        most_cubes = run->cubes;
+    bool closed = chain->number == 0;
+    see(LONG_CLOSED, closed && chain->cubes >= 100);
+    see(LONG_NO_ROOM, chain->number == 15 && chain->cubes >= 100);
+    if (chain->cubes > most_cubes)
+        most_cubes = chain->cubes;
     if (!closed)
         return;
-    see(CLOSED_FULL, run->cubes == bytes_of(CUBES) / record);
-    see(CLOSED_LATER, run->back > 0);
-    see(CLOSED_WIDENED, w != 0 && run->cubes > w);
-    see(SOME_SETTLED, run->settled > 0);
-    see(SOME_NEVER, has_pair(of_library(&hand, VERDICT), counts.lamps, 1));
+    see(CLOSED_FULL, chain->cubes == bytes_of(CUBES) / record_bytes(counts.latches));
+    see(CLOSED_LATER, chain->back > 0);
+    see(CLOSED_WIDENED, w != 0 && chain->cubes > w);
     see(UNKNOWN_START, has_pair(of_library(&hand, CUBES), counts.latches, 0));
-    see(SOME_ALWAYS, has_pair(of_library(&hand, VERDICT), counts.lamps, 2));
 }
 
-/* Each widening holds a latch more, for where none differs b is a and the run is closed; and once all are held the next
+/* Each widening holds a latch more, for where none differs b is a and the chain is closed; and once all are held the next
  * cube is subsumed. */
-static void must_close_in_time(chudravik_counts counts, size_t w, const answer *run)
+static void must_close_in_time(chudravik_counts counts, size_t w, const answer *chain)
 {
-    if (w == 0 || (run->number != 0 && run->number != 15))
+    if (w == 0 || (chain->number != 0 && chain->number != 15))
         return;
-    if (run->cubes > w * counts.latches + 1 || (run->number == 15 && run->cubes == w * counts.latches + 1))
-        fail("with w %zu a run of %zu latches did not close within w x L + 1 cubes", w, counts.latches);
+    if (chain->cubes > w * counts.latches + 1 || (chain->number == 15 && chain->cubes == w * counts.latches + 1))
+        fail("with w %zu a chain of %zu latches did not close within w x L + 1 cubes", w, counts.latches);
 }
 
-/* A lamp where there is none, save in a few: those meet 16, whatever else is wrong, and the others come to their run. */
+/* What the library chained it judges, with the table that made it and with other lamps. */
+static void must_be_judged(chudravik_counts counts, const answer *chain)
+{
+    static uint16_t word[WORDS_CEILING];
+    uint8_t verdict[LAMPS_CEILING], settled[LATCHES_CEILING];
+    memcpy(word, library_table(&hand), words_of(counts) * sizeof *word);
+    for (size_t lamps = 0; lamps < 2; lamps++) {
+        uint32_t number = chudravik_judge(counts, word, words_of(counts), of_library(&hand, CUBES), bytes_of(CUBES),
+                                          chain->cubes, chain->back, verdict, sizeof verdict, settled, sizeof settled)
+                              .number;
+        if (number != 0)
+            fail("what the library chained it refuses to judge, with %" PRIu32, number);
+        for (size_t i = 0; i < counts.lamps; i++)
+            word[2 * counts.latches + i] = (uint16_t)below(2 * (1 + counts.inputs + counts.latches + counts.gates));
+    }
+}
+
+/* A lamp where there is none, save in a few: those meet 16, whatever else is wrong, and the others come to their work. */
 static void mostly_give_lamp(circuit *c)
 {
     if (c->counts.lamps > 0 || chance(25))
@@ -1323,27 +1355,26 @@ static void mostly_give_lamp(circuit *c)
     set_random_lamps(c);
 }
 
-static void try_run(circuit *c)
+static void try_chain(circuit *c)
 {
     make_circuit(c, 70);
     mostly_give_lamp(c);
     chudravik_counts counts = handed_counts(c);
     size_t latches = fields_for(counts.latches, c->counts.latches, LATCHES_CEILING);
-    size_t lamps = fields_for(counts.lamps, c->counts.lamps, LAMPS_CEILING);
     size_t w = interval();
-    twice_begin(&hand, RUN, counts, w);
+    twice_begin(&hand, CHAIN, counts, (numbers){.w = w});
     lend_table(c);
     lend_noise(CUBES, cubes_length(c, w, record_bytes(latches)));
-    lend_noise(VERDICT, length_for(record_bytes(lamps)));
-    lend_noise(SETTLED, length_for(record_bytes(latches)));
     make_call();
-    note(RUN, hand.library.number, table_words(&hand) < words_of(counts) ? TEN_TABLE : TEN_RESULT);
+    note(CHAIN, hand.library.number, TEN_TABLE);
     see_size(hand.library.number, counts);
-    see_run(counts, w, &hand.library);
+    see_chain(counts, w, &hand.library);
     must_close_in_time(counts, w, &hand.library);
+    if (hand.library.number == 0)
+        must_be_judged(counts, &hand.library);
 }
 
-/* ---- covers ---- */
+/* ---- given cubes ---- */
 
 /* Cubes for a circuit, one record behind the other, and how many. The library must take whatever they are. */
 typedef struct {
@@ -1362,16 +1393,15 @@ static void add_cube(cover *sent, const uint8_t *cube)
         memmove(cube_at(sent, sent->count++), cube, sent->record);
 }
 
-/* The cubes of a run, by the simulator, closed or not. */
-static void cover_by_run(cover *sent, const circuit *c)
+/* The cubes of a chain, by the simulator, closed or not; answers j where it is closed. */
+static size_t cover_by_chain(cover *sent, const circuit *c)
 {
     static uint16_t word[WORDS_CEILING];
-    static uint8_t verdict[LAMPS_CEILING], settled[LATCHES_CEILING];
     lay_words(c, word);
-    sent->count = simulate_run(c->counts, word, WORDS_CEILING, ONE_OF(0, 0, 1, 2, 3, 16), sent->byte,
-                               least_of(sent->most, between(1, 400)) * sent->record, verdict, sizeof verdict, settled,
-                               sizeof settled)
-                      .cubes;
+    chudravik_chain_answer chain = simulate_chain(c->counts, word, WORDS_CEILING, ONE_OF(0, 0, 1, 2, 3, 16), sent->byte,
+                                                  least_of(sent->most, between(1, 400)) * sent->record);
+    sent->count = chain.cubes;
+    return chain.back;
 }
 
 /* Both values of one latch, and nothing known of the others. */
@@ -1461,19 +1491,24 @@ static void change_cover(cover *sent)
     }
 }
 
-/* Whether a run made them, and nothing but their order was changed or one of them doubled. */
-static bool make_cover(cover *sent, const circuit *c, size_t latches)
+static void begin_cubes(cover *sent, size_t latches)
 {
-    size_t roll = below(100);
     sent->latches = latches;
     sent->record = record_bytes(latches);
     sent->most = least_of(CUBES_CEILING / sent->record, 600);
     sent->count = 0;
     memset(sent->byte, 0, sizeof sent->byte);
+}
+
+/* Whether they are the cubes of a chain, perhaps in another order or with changes. */
+static bool make_cover(cover *sent, const circuit *c, size_t latches)
+{
+    size_t roll = below(100);
+    begin_cubes(sent, latches);
     if (latches != c->counts.latches || roll < 8)
         cover_by_chance(sent);
     else if (roll < 60)
-        cover_by_run(sent, c);
+        cover_by_chain(sent, c);
     else if (roll < 75)
         cover_by_states(sent, c);
     else if (roll < 85)
@@ -1506,20 +1541,20 @@ static void lend_cover(cover *sent)
 }
 
 /* Of a call that gave 10, so the counts are within their ceilings. */
-static size_t ten_of_cover(chudravik_counts counts)
+static size_t ten_of_cubes(chudravik_counts counts)
 {
     if (table_words(&hand) < words_of(counts))
         return TEN_TABLE;
-    return hand.w > bytes_of(CUBES) / record_bytes(counts.latches) ? TEN_GIVEN : TEN_RESULT;
+    return hand.with.n > bytes_of(CUBES) / record_bytes(counts.latches) ? TEN_GIVEN : TEN_RESULT;
 }
 
-static void see_cover(chudravik_counts counts, bool of_run, const answer *made)
+static void see_cover(chudravik_counts counts, bool of_chain, const answer *made)
 {
     see(COVER_LEFT_LATER, made->number == 18 && made->cube > 0);
     if (made->number != 0)
         return;
-    see(of_run ? COVER_OF_A_RUN : COVER_OF_OTHERS, true);
-    see(COVER_LONG, hand.w >= 50);
+    see(of_chain ? COVER_OF_A_CHAIN : COVER_OF_OTHERS, true);
+    see(COVER_LONG, hand.with.n >= 50);
     see(COVER_NEVER, has_pair(of_library(&hand, VERDICT), counts.lamps, 1));
 }
 
@@ -1530,15 +1565,175 @@ static void try_cover(circuit *c)
     chudravik_counts counts = handed_counts(c);
     size_t latches = fields_for(counts.latches, c->counts.latches, LATCHES_CEILING);
     size_t lamps = fields_for(counts.lamps, c->counts.lamps, LAMPS_CEILING);
-    bool of_run = make_cover(&sent, c, latches);
-    twice_begin(&hand, COVER, counts, count_handed(&sent));
+    bool of_chain = make_cover(&sent, c, latches);
+    twice_begin(&hand, COVER, counts, (numbers){.n = count_handed(&sent)});
     lend_table(c);
     lend_cover(&sent);
     lend_noise(VERDICT, length_for(record_bytes(lamps)));
     make_call();
-    note(COVER, hand.library.number, hand.library.number == 10 ? ten_of_cover(counts) : TEN_TABLE);
+    note(COVER, hand.library.number, hand.library.number == 10 ? ten_of_cubes(counts) : TEN_TABLE);
     see_size(hand.library.number, counts);
-    see_cover(counts, of_run, &hand.library);
+    see_cover(counts, of_chain, &hand.library);
+}
+
+/* ---- chains ---- */
+
+/* Kinds of given chain: as it was made; with lamps, or gates and lamps, drawn behind it; with its round gone through once
+ * more; with fields forgotten so that it still is a chain; and those that mostly are none: a field changed, cut short,
+ * another j, another start, cubes of chance. */
+enum kind { OWN, WITH_LAMP, UNROLLED, BLURRED, FIELD_CHANGED, CUT_SHORT, OTHER_BACK, OTHER_START, BY_CHANCE, KINDS };
+
+static void add_lamp(circuit *c)
+{
+    if (chance(50))
+        add_random_gates(c, between(1, 4));
+    if (c->counts.lamps < LAMPS_CEILING)
+        c->counts.lamps++;
+    c->lamp[c->counts.lamps - 1] = literal_below(top_literal(c) + 1);
+}
+
+/* The cubes from j on stored once more, so that the way back is a later one. */
+static size_t unroll(cover *sent, size_t j)
+{
+    size_t count = sent->count;
+    if (2 * count - j > sent->most)
+        return j;
+    for (size_t k = j; k < count; k++)
+        add_cube(sent, cube_at(sent, k));
+    return count;
+}
+
+/* Forgets in a cube what another does not have alike; answers whether there was anything. */
+static bool forget(uint8_t *cube, const uint8_t *other, size_t bytes)
+{
+    bool forgot = false;
+    for (size_t i = 0; i < bytes; i++) {
+        forgot |= (cube[i] & other[i]) != cube[i];
+        cube[i] &= other[i];
+    }
+    return forgot;
+}
+
+/* Forgets on, from cube to cube, until each next state lies inside what follows. Cube 0 stays the resets: whoever calls this
+ * goes back to a later one. */
+static void mend(cover *sent, const circuit *c, size_t j)
+{
+    static uint16_t word[WORDS_CEILING];
+    uint8_t next[LATCHES_CEILING], lamps[LAMPS_CEILING], switches[INPUTS_CEILING] = {0};
+    lay_words(c, word);
+    for (bool changed = true; changed;) {
+        changed = false;
+        for (size_t k = 0; k < sent->count; k++) {
+            if (simulate_tick(c->counts, word, WORDS_CEILING, cube_at(sent, k), sent->record, switches, sizeof switches,
+                              next, sizeof next, lamps, sizeof lamps) != 0)
+                return;
+            changed |= forget(cube_at(sent, k + 1 < sent->count ? k + 1 : j), next, sent->record);
+        }
+    }
+}
+
+static size_t blur(cover *sent, const circuit *c, size_t j)
+{
+    size_t back = j > 0 ? j : unroll(sent, j);
+    if (back == 0 || sent->latches == 0 || sent->count > 100)
+        return back;
+    for (size_t times = between(1, 3); times > 0; times--)
+        set_pair(cube_at(sent, between(1, sent->count - 1)), below(sent->latches), 0);
+    mend(sent, c, back);
+    return back;
+}
+
+static void change_field(cover *sent, size_t k)
+{
+    size_t field = below(sent->latches);
+    if (sent->latches > 0)
+        set_pair(cube_at(sent, k), field, (pair_at(cube_at(sent, k), field) + between(1, 2)) % 3);
+}
+
+/* Makes the cubes and answers j. */
+static size_t make_chain(cover *sent, circuit *c, size_t latches, enum kind kind)
+{
+    begin_cubes(sent, latches);
+    if (latches != c->counts.latches || kind == BY_CHANCE) {
+        cover_by_chance(sent);
+        return below(sent->count + 2);
+    }
+    size_t j = cover_by_chain(sent, c);
+    if (sent->count == 0)
+        return 0;
+    switch (kind) {
+    case WITH_LAMP:
+        add_lamp(c);
+        return j;
+    case UNROLLED:
+        return unroll(sent, j);
+    case BLURRED:
+        return blur(sent, c, j);
+    case FIELD_CHANGED:
+        change_field(sent, below(sent->count));
+        return j;
+    case CUT_SHORT:
+        sent->count -= between(1, least_of(sent->count, 3));
+        return j;
+    case OTHER_BACK:
+        return chance(30) ? sent->count + below(2) : below(sent->count);
+    case OTHER_START:
+        change_field(sent, 0);
+        return j;
+    default:
+        return j;
+    }
+}
+
+static size_t back_handed(const cover *sent, size_t j)
+{
+    if (!troubled())
+        return j;
+    return ONE_OF(0, j + 1, j - 1, sent->count, sent->count - 1, sent->count + 1, (size_t)1 << 32, j + ((size_t)1 << 32),
+                  SIZE_MAX, SIZE_MAX / sent->record + 1 + j, (size_t)1 << 63, draw());
+}
+
+static void see_judge(chudravik_counts counts, enum kind kind, const answer *made)
+{
+    static const enum sight judged[KINDS] = {JUDGED_OWN, JUDGED_WITH_LAMP, JUDGED_UNROLLED, JUDGED_BLURRED};
+    static const enum sight refused[KINDS] = {[FIELD_CHANGED] = NO_CHAIN_FIELD,
+                                              [CUT_SHORT] = NO_CHAIN_SHORT,
+                                              [OTHER_BACK] = NO_CHAIN_BACK,
+                                              [OTHER_START] = NO_CHAIN_START};
+    if (kind >= FIELD_CHANGED && kind <= OTHER_START)
+        see(refused[kind], made->number == 19);
+    if (made->number != 0)
+        return;
+    if (kind <= BLURRED)
+        see(judged[kind], true);
+    see(JUDGED_LONG, hand.with.n >= 50);
+    see(SOME_SETTLED, made->settled > 0);
+    see(SOME_NEVER, has_pair(of_library(&hand, VERDICT), counts.lamps, 1));
+    see(SOME_ALWAYS, has_pair(of_library(&hand, VERDICT), counts.lamps, 2));
+}
+
+static void try_judge(circuit *c)
+{
+    static cover sent;
+    make_circuit(c, 70);
+    mostly_give_lamp(c);
+    chudravik_counts counts = handed_counts(c);
+    size_t latches = fields_for(counts.latches, c->counts.latches, LATCHES_CEILING);
+    enum kind kind = (enum kind)below(KINDS);
+    size_t j = make_chain(&sent, c, latches, kind);
+    if (kind == WITH_LAMP && counts.latches == c->counts.latches)
+        counts = handed_counts(c);
+    size_t lamps = fields_for(counts.lamps, c->counts.lamps, LAMPS_CEILING);
+    size_t n = count_handed(&sent);
+    twice_begin(&hand, JUDGE, counts, (numbers){.n = n, .j = back_handed(&sent, j)});
+    lend_table(c);
+    lend_cover(&sent);
+    lend_noise(VERDICT, length_for(record_bytes(lamps)));
+    lend_noise(SETTLED, length_for(record_bytes(latches)));
+    make_call();
+    note(JUDGE, hand.library.number, hand.library.number == 10 ? ten_of_cubes(counts) : TEN_TABLE);
+    see_size(hand.library.number, counts);
+    see_judge(counts, kind, &hand.library);
 }
 
 static void try_call(uint64_t number)
@@ -1554,10 +1749,12 @@ static void try_call(uint64_t number)
         try_read_any(&c);
     else if (roll < 48)
         try_write(&c);
-    else if (roll < 61)
+    else if (roll < 58)
         try_tick(&c);
-    else if (roll < 84)
-        try_run(&c);
+    else if (roll < 72)
+        try_chain(&c);
+    else if (roll < 88)
+        try_judge(&c);
     else
         try_cover(&c);
 }
@@ -1607,7 +1804,7 @@ static void print_met(void)
     }
     for (size_t sight = 0; sight < SIGHTS; sight++)
         printf("%10" PRIu64 "  %s\n", seen[sight], sight_names[sight]);
-    printf("%10zu  cubes in the longest run\n", most_cubes);
+    printf("%10zu  cubes in the longest chain\n", most_cubes);
 }
 
 static size_t count_rare(void)

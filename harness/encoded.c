@@ -99,7 +99,7 @@ static void lend_bytes(twice *t, const string_rest *rest, enum role role, size_t
 
 static void lay_read(twice *t, string_rest *rest)
 {
-    twice_begin(t, READ, (chudravik_counts){0}, 0);
+    twice_begin(t, READ, (chudravik_counts){0}, (numbers){0});
     lend_bytes(t, rest, TABLE, take_words_bytes(rest));
     size_t least = take_length(rest);
     give_text(t, rest, least);
@@ -107,7 +107,7 @@ static void lay_read(twice *t, string_rest *rest)
 
 static void lay_read_any(twice *t, string_rest *rest)
 {
-    twice_begin(t, READ_ANY, (chudravik_counts){0}, 0);
+    twice_begin(t, READ_ANY, (chudravik_counts){0}, (numbers){0});
     lend_bytes(t, rest, TABLE, take_words_bytes(rest));
     lend_bytes(t, rest, LIST, take_words_bytes(rest));
     size_t least = take_length(rest);
@@ -116,7 +116,7 @@ static void lay_read_any(twice *t, string_rest *rest)
 
 static void lay_write(twice *t, string_rest *rest)
 {
-    twice_begin(t, WRITE, take_counts(rest), 0);
+    twice_begin(t, WRITE, take_counts(rest), (numbers){0});
     size_t table_bytes = take_words_bytes(rest);
     lend_bytes(t, rest, TEXT, take_length(rest));
     give_table(t, rest, table_bytes);
@@ -124,7 +124,7 @@ static void lay_write(twice *t, string_rest *rest)
 
 static void lay_tick(twice *t, string_rest *rest)
 {
-    twice_begin(t, TICK, take_counts(rest), 0);
+    twice_begin(t, TICK, take_counts(rest), (numbers){0});
     size_t table_bytes = take_words_bytes(rest);
     size_t state_bytes = take_length(rest);
     size_t switches_bytes = take_length(rest);
@@ -135,22 +135,46 @@ static void lay_tick(twice *t, string_rest *rest)
     give_bytes(t, rest, SWITCHES, switches_bytes);
 }
 
+/* The chain; the results of the judge behind it are laid already, and both calls have one table. */
 static void lay_run(twice *t, string_rest *rest)
 {
     chudravik_counts counts = take_counts(rest);
     size_t table_bytes = take_words_bytes(rest);
-    twice_begin(t, RUN, counts, take_number(rest));
+    twice_begin(t, CHAIN, counts, (numbers){.w = take_number(rest)});
     lend_bytes(t, rest, CUBES, take_length(rest));
     lend_bytes(t, rest, VERDICT, take_length(rest));
     lend_bytes(t, rest, SETTLED, take_length(rest));
     give_table(t, rest, table_bytes);
 }
 
+static void lay_judge_of_chain(twice *t, const string_rest *rest)
+{
+    size_t bytes = t->lent[CUBES].bytes;
+    t->call = JUDGE;
+    t->with = (numbers){.n = t->library.cubes, .j = t->library.back};
+    if (bytes != 0)
+        memcpy(twice_content(t, CUBES), t->lent[CUBES].simulated, bytes);
+    twice_lend(t, CUBES, true, bytes, way_of(rest, CUBES));
+}
+
+static void lay_judge(twice *t, string_rest *rest)
+{
+    chudravik_counts counts = take_counts(rest);
+    size_t table_bytes = take_words_bytes(rest);
+    size_t n = take_number(rest);
+    twice_begin(t, JUDGE, counts, (numbers){.n = n, .j = take_number(rest)});
+    size_t cubes_bytes = take_length(rest);
+    lend_bytes(t, rest, VERDICT, take_length(rest));
+    lend_bytes(t, rest, SETTLED, take_length(rest));
+    give_table(t, rest, table_bytes);
+    give_bytes(t, rest, CUBES, cubes_bytes);
+}
+
 static void lay_cover(twice *t, string_rest *rest)
 {
     chudravik_counts counts = take_counts(rest);
     size_t table_bytes = take_words_bytes(rest);
-    twice_begin(t, COVER, counts, take_number(rest));
+    twice_begin(t, COVER, counts, (numbers){.n = take_number(rest)});
     size_t cubes_bytes = take_length(rest);
     lend_bytes(t, rest, VERDICT, take_length(rest));
     give_table(t, rest, table_bytes);
@@ -161,18 +185,31 @@ typedef void layer(twice *t, string_rest *rest);
 
 static layer *layer_of(uint8_t first)
 {
-    static layer *const older[] = {lay_read, lay_write, lay_tick, lay_run};
+    static layer *const older[] = {lay_read, lay_write, lay_tick, lay_run}, *const newer[] = {lay_read_any, lay_judge};
     if (first >> 4 != 0)
-        return lay_read_any;
+        return newer[((first >> 4) - 1) % (sizeof newer / sizeof newer[0])];
     return first & 8 ? lay_cover : older[first & 3];
 }
 
-bool encoded_make(twice *t, const uint8_t *string, size_t bytes)
+static bool make_often(twice *t, size_t times)
+{
+    bool same = twice_make(t);
+    for (size_t time = 1; time < times && same; time++)
+        same = twice_again(t);
+    return same;
+}
+
+bool encoded_make(twice *t, const uint8_t *string, size_t bytes, size_t times)
 {
     string_rest rest = {.at = string, .end = string + bytes};
     uint8_t first = take_byte(&rest);
     rest.short_words = first & 4;
     rest.ways = take_byte(&rest);
     layer_of(first)(t, &rest);
-    return twice_make(t);
+    if (!make_often(t, times))
+        return false;
+    if (t->call != CHAIN)
+        return true;
+    lay_judge_of_chain(t, &rest);
+    return make_often(t, times);
 }

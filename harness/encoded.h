@@ -1,13 +1,15 @@
 /* A call as a string of bytes, for whoever looks for calls by changing bytes: every string is a call.
  *
  *   byte 0      the call, and whether a word of a table is one byte (bit 2) or two. The call is by the high four bits:
- *               0 read, write, tick or run by the two low bits, or a cover where bit 3 is set; else a read_any
+ *               0 read, write, tick or run by the two low bits, or a cover where bit 3 is set; odd read_any, even judge
  *   byte 1      how the buffers are laid (twice.h), two bits for each
  *   read        the table's words; how many bytes the text has at least; then the text as it is, with `x` behind it
  *   read_any    the table's words, the list's words; and on as for read
  *   write       I, L, O, A, the table's words, the text's bytes; then the table
  *   tick        I, L, O, A, the table's words, the bytes of state, switches, next and lamps; then table, state, switches
- *   run         I, L, O, A, the table's words, w, the bytes of cubes, verdict and settled; then the table
+ *   run         I, L, O, A, the table's words, w, the bytes of cubes, verdict and settled; then the table: a chain, and a
+ *               judge of what it left
+ *   judge       I, L, O, A, the table's words, n, j, the bytes of cubes, verdict and settled; then table, cubes
  *   cover       I, L, O, A, the table's words, n, the bytes of cubes and verdict; then table, cubes
  *
  * A number is one byte below 240; or two, 240 + 256 x (first - 240) + second; or 255 and eight, the lowest first. What
@@ -18,7 +20,7 @@
 
 #include "twice.h"
 
-/* Makes the call of a string, and answers as twice_make does. */
-bool encoded_make(twice *t, const uint8_t *string, size_t bytes);
+/* Makes the call of a string, or both of a run's, and answers as twice_make does. The library makes each so many times. */
+bool encoded_make(twice *t, const uint8_t *string, size_t bytes, size_t times);
 
 #endif

@@ -2,7 +2,8 @@
  *
  * Each file must be read; written back, it must be the same text up to its comment; that text must read to the same
  * counts and words, and so must the file with bytes 13 and 10 at the end of each line, but not with the ending of one
- * line alone changed; and the report program's run (w = 16, 65,536 bytes) must close or be refused by 15. One line a file
+ * line alone changed; and the report program's chain (w = 16, 65,536 bytes) must close, and then be judged, or be refused
+ * by 15. One line a file
  * goes to standard output, to be compared with the stored ones. Exits 1 on any failure. */
 #include <stdio.h>
 #include <string.h>
@@ -147,17 +148,20 @@ static int report_run(const char *path, chudravik_counts counts)
 {
     const char *slash = strrchr(path, '/');
     size_t words = CHUDRAVIK_TABLE_WORDS(counts.latches, counts.lamps, counts.gates);
-    chudravik_run_answer run = chudravik_run(counts, table, words, REPORT_INTERVAL, cubes, sizeof cubes, verdict,
-                                             sizeof verdict, settled, sizeof settled);
-    if (run.number != CHUDRAVIK_ACCEPTED && run.number != CHUDRAVIK_NO_ROOM)
-        return failed(path, "refused by the run", run.number);
+    chudravik_chain_answer chain = chudravik_chain(counts, table, words, REPORT_INTERVAL, cubes, sizeof cubes);
+    if (chain.number != CHUDRAVIK_ACCEPTED && chain.number != CHUDRAVIK_NO_ROOM)
+        return failed(path, "refused as a chain", chain.number);
     printf("%s inputs %zu latches %zu lamps %zu gates %zu", slash == NULL ? path : slash + 1, counts.inputs,
            counts.latches, counts.lamps, counts.gates);
-    if (run.number == CHUDRAVIK_NO_ROOM) {
-        printf(" refused 15 cubes %zu\n", run.cubes);
+    if (chain.number == CHUDRAVIK_NO_ROOM) {
+        printf(" refused 15 cubes %zu\n", chain.cubes);
         return 1;
     }
-    printf(" cubes %zu back %zu settled %zu:", run.cubes, run.back, run.settled);
+    chudravik_judge_answer judge = chudravik_judge(counts, table, words, cubes, sizeof cubes, chain.cubes, chain.back,
+                                                   verdict, sizeof verdict, settled, sizeof settled);
+    if (judge.number != CHUDRAVIK_ACCEPTED)
+        return failed(path, "refused by the judge", judge.number);
+    printf(" cubes %zu back %zu settled %zu:", chain.cubes, chain.back, judge.settled);
     return print_verdicts(path, counts.lamps);
 }
 

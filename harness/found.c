@@ -16,7 +16,7 @@ static corpus all;
 
 static void must_agree(twice *t, size_t number)
 {
-    if (encoded_make(t, all.at[number].string, all.at[number].bytes))
+    if (encoded_make(t, all.at[number].string, all.at[number].bytes, 1))
         return;
     fprintf(stderr, "found: string %zu: %s\n", number, t->difference);
     twice_show(t);
@@ -26,17 +26,13 @@ static void must_agree(twice *t, size_t number)
 static int make_all(const char *path, size_t least)
 {
     static twice t;
-    size_t made[CALLS] = {0}, accepted[CALLS] = {0};
     corpus_load(&all, path);
     twice_take_memory(&t);
-    for (size_t i = 0; i < all.count; i++) {
+    for (size_t i = 0; i < all.count; i++)
         must_agree(&t, i);
-        made[t.call]++;
-        accepted[t.call] += t.library.number == CHUDRAVIK_ACCEPTED;
-    }
     printf("%zu strings", all.count);
     for (size_t call = 0; call < CALLS; call++)
-        printf(", %s %zu (%zu accepted)", call_names[call], made[call], accepted[call]);
+        printf(", %s %zu (%zu accepted)", call_names[call], t.made[call], t.accepted[call]);
     putchar('\n');
     if (all.count < least) {
         fprintf(stderr, "found: there must be at least %zu strings\n", least);

@@ -13,7 +13,7 @@ int LLVMFuzzerTestOneInput(const uint8_t *string, size_t bytes)
     static twice t;
     if (t.lent[0].before == NULL)
         twice_take_memory(&t);
-    if (!encoded_make(&t, string, bytes)) {
+    if (!encoded_make(&t, string, bytes, 1)) {
         fprintf(stderr, "fuzz: %s\n", t.difference);
         twice_show(&t);
         abort();

@@ -62,15 +62,25 @@ static int ticks(chudravik_counts counts)
            CHUDRAVIK_FIELD(lamps, 0) == CHUDRAVIK_LOW;
 }
 
-static int runs(chudravik_counts counts)
+static int chains(chudravik_counts counts)
 {
-    chudravik_run_answer run = chudravik_run(counts, table, CHUDRAVIK_MOST_TABLE_WORDS, CHUDRAVIK_MOST_INTERVAL, cubes,
-                                             sizeof cubes, lamps, sizeof lamps, state, sizeof state);
-    return run.number == CHUDRAVIK_ACCEPTED && run.cubes == 2 && run.back == 0 && run.settled == 0 &&
-           CHUDRAVIK_FIELD(lamps, 0) == CHUDRAVIK_LOW && CHUDRAVIK_FIELD(state, 1) == CHUDRAVIK_UNKNOWN;
+    chudravik_chain_answer chain = chudravik_chain(counts, table, CHUDRAVIK_MOST_TABLE_WORDS, CHUDRAVIK_MOST_INTERVAL,
+                                                   cubes, sizeof cubes);
+    return chain.number == CHUDRAVIK_ACCEPTED && chain.cubes == 2 && chain.back == 0;
 }
 
-/* The run's two cubes, the other way round; then the first alone, whose next state is the second. */
+/* The chain; then back to its last cube, which the next state is not inside. */
+static int judges(chudravik_counts counts)
+{
+    chudravik_judge_answer judge = chudravik_judge(counts, table, CHUDRAVIK_MOST_TABLE_WORDS, cubes, sizeof cubes, 2, 0,
+                                                   lamps, sizeof lamps, state, sizeof state);
+    chudravik_judge_answer other = chudravik_judge(counts, table, CHUDRAVIK_MOST_TABLE_WORDS, cubes, sizeof cubes, 2, 1,
+                                                   lamps, sizeof lamps, state, sizeof state);
+    return judge.number == CHUDRAVIK_ACCEPTED && judge.settled == 0 && CHUDRAVIK_FIELD(lamps, 0) == CHUDRAVIK_LOW &&
+           CHUDRAVIK_FIELD(state, 1) == CHUDRAVIK_UNKNOWN && other.number == CHUDRAVIK_NOT_A_CHAIN;
+}
+
+/* The chain's two cubes, the other way round; then the first alone, whose next state is the second. */
 static int covers(chudravik_counts counts)
 {
     const uint8_t swapped[2] = {cubes[1], cubes[0]};
@@ -88,7 +98,7 @@ int main(void)
 {
     chudravik_counts counts;
     if (!version_agrees() || !reads(&counts) || !reads_any(counts) || !writes_back(counts) || !ticks(counts) ||
-        !runs(counts) || !covers(counts)) {
+        !chains(counts) || !judges(counts) || !covers(counts)) {
         fputs("header: not as it must be\n", stderr);
         return 1;
     }

@@ -1,7 +1,7 @@
 /* Null pointers with length 0: each call on several circuits, with every set of its buffers taken away and handed as
  * null. The simulator is handed an empty buffer in their place (twice.h), and both must agree. Fails too if a call was
- * never accepted with a null pointer: the circuit without counts needs no table. A run and a cover need a lamp, so they need
- * each of their buffers.
+ * never accepted with a null pointer: the circuit without counts needs no table. A chain, a judge and a cover need a lamp, so
+ * they need each of their buffers.
  */
 #include "twice.h"
 
@@ -18,29 +18,31 @@ typedef struct {
     uint16_t table[12];
     uint8_t state;
     uint8_t switches;
+    uint8_t cubes[2]; /* a closed chain, back to cube 0 */
+    size_t n;
 } sample;
 
 /* No counts; a switch behind a gate that is never lit; two latches that swap. */
 static const sample samples[] = {
-    {.text = "aag 0 0 0 0 0\n"},
-    {.text = "aag 2 1 0 1 1\n2\n4\n4 2 3\n", .counts = {1, 0, 1, 1}, .table = {4, 2, 3}, .switches = 0x80},
+    {.text = "aag 0 0 0 0 0\n", .n = 1},
+    {.text = "aag 2 1 0 1 1\n2\n4\n4 2 3\n", .counts = {1, 0, 1, 1}, .table = {4, 2, 3}, .switches = 0x80, .n = 1},
     {.text = "aag 3 0 2 1 1\n2 4\n4 2 1\n6\n6 4 2\n",
      .counts = {0, 2, 1, 1},
      .table = {4, 0, 2, 1, 6, 4, 2},
-     .state = 0x60},
+     .state = 0x60,
+     .cubes = {0x60, 0x90},
+     .n = 2},
 };
 
 enum { SAMPLES = sizeof samples / sizeof samples[0] };
-
-/* One cube, which all states lie inside. */
-static const uint8_t no_latch_known = 0;
 
 static const enum role buffers_of[CALLS][6] = {
     [READ] = {TEXT, TABLE, ROLES},
     [READ_ANY] = {TEXT, TABLE, LIST, ROLES},
     [WRITE] = {TABLE, TEXT, ROLES},
     [TICK] = {TABLE, STATE, SWITCHES, NEXT, LAMPS, ROLES},
-    [RUN] = {TABLE, CUBES, VERDICT, SETTLED, ROLES},
+    [CHAIN] = {TABLE, CUBES, ROLES},
+    [JUDGE] = {TABLE, CUBES, VERDICT, SETTLED, ROLES},
     [COVER] = {TABLE, CUBES, VERDICT, ROLES},
 };
 
@@ -56,7 +58,7 @@ static bool is_given(enum call call, enum role role)
 {
     bool reads = call == READ || call == READ_ANY;
     return role == STATE || role == SWITCHES || (role == TEXT && reads) || (role == TABLE && !reads) ||
-           (role == CUBES && call == COVER);
+           (role == CUBES && call != CHAIN);
 }
 
 static const void *given_content(const sample *s, enum role role)
@@ -69,7 +71,7 @@ static const void *given_content(const sample *s, enum role role)
     case STATE:
         return &s->state;
     case CUBES:
-        return &no_latch_known;
+        return s->cubes;
     default:
         return &s->switches;
     }
@@ -82,6 +84,8 @@ static size_t given_bytes(const sample *s, enum role role)
         return strlen(s->text);
     case TABLE:
         return 2 * CHUDRAVIK_TABLE_WORDS(s->counts.latches, s->counts.lamps, s->counts.gates);
+    case CUBES:
+        return s->n;
     default:
         return 1;
     }
@@ -123,13 +127,13 @@ static void try_sets(twice *t, enum call call)
     size_t made = 0, accepted = 0;
     for (size_t i = 0; i < SAMPLES; i++)
         for (unsigned taken_away = 1; taken_away < 1u << count_buffers(call); taken_away++, made++) {
-            twice_begin(t, call, samples[i].counts, 1);
+            twice_begin(t, call, samples[i].counts, (numbers){.w = 1, .n = samples[i].n});
             lend_buffers(t, &samples[i], taken_away);
             must_agree(t);
             accepted += t->library.number == CHUDRAVIK_ACCEPTED;
         }
     printf("%s: %zu calls with null pointers, %zu accepted\n", call_names[call], made, accepted);
-    if (accepted == 0 && call != RUN && call != COVER) {
+    if (accepted == 0 && call != CHAIN && call != JUDGE && call != COVER) {
         fprintf(stderr, "nulls: %s was never accepted\n", call_names[call]);
         exit(1);
     }

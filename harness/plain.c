@@ -1,4 +1,4 @@
-/* The five calls in plain C (plain.h). Numbers in brackets are sections of docs/SPECIFICATION.md. */
+/* The calls in plain C (plain.h). Numbers in brackets are sections of docs/SPECIFICATION.md. */
 #include "plain.h"
 
 #include <stdbool.h>
@@ -143,7 +143,7 @@ static uint32_t circuit_refusal(const chudravik_counts *counts, const uint16_t *
     return CHUDRAVIK_ACCEPTED;
 }
 
-/* "16, no lamps, in the run directly after 3", and so in the cover. */
+/* "16, no lamps, in the run directly after 3", so in both of its calls and in the cover. */
 static uint32_t board_refusal(const chudravik_counts *counts, const uint16_t *table, size_t table_words)
 {
     if (counts_kept(counts) && counts->lamps == 0) {
@@ -262,7 +262,7 @@ uint32_t plain_tick(chudravik_counts counts, const uint16_t *table, size_t table
     return CHUDRAVIK_ACCEPTED;
 }
 
-/* ---- the run ---- */
+/* ---- the chain ---- */
 
 /* "how many cubes are stored, which latches are held unknown": a held latch has the pair 11. */
 typedef struct {
@@ -353,33 +353,8 @@ static bool follow(const chudravik_counts *counts, const uint16_t *table, size_t
     }
 }
 
-/* "per lamp 01 (never) if 0 in all n cubes, 10 (always) if 1 in all, else 00 (open)" */
-static void judge_lamps(const chudravik_counts *counts, const uint16_t *table, const uint8_t *cubes, size_t n,
-                        uint8_t *verdict)
-{
-    size_t length = record_length(counts->latches);
-    uint8_t values[VALUE_BYTES] = {CHUDRAVIK_LOW << 6};
-    uint8_t lamps[MOST_LAMP_RECORD];
-    settle_state(counts, table, cubes, values);
-    store_lamps(counts, table, values, verdict);
-    for (size_t k = 1; k < n; k++) {
-        settle_state(counts, table, cubes + k * length, values);
-        store_lamps(counts, table, values, lamps);
-        agree(verdict, lamps, record_length(counts->lamps));
-    }
-}
-
-/* "per latch the known value shared by cubes j to n - 1, else 00" */
-static void settle_latches(const uint8_t *cubes, size_t length, size_t n, size_t j, uint8_t *settled)
-{
-    memcpy(settled, cubes + j * length, length);
-    for (size_t k = j + 1; k < n; k++) {
-        agree(settled, cubes + k * length, length);
-    }
-}
-
-static uint32_t run_refusal(const chudravik_counts *counts, const uint16_t *table, size_t table_words, size_t w,
-                            size_t cubes_bytes, size_t verdict_bytes, size_t settled_bytes)
+static uint32_t chain_refusal(const chudravik_counts *counts, const uint16_t *table, size_t table_words, size_t w,
+                              size_t cubes_bytes)
 {
     uint32_t number = board_refusal(counts, table, table_words);
     if (number != CHUDRAVIK_ACCEPTED) {
@@ -388,43 +363,29 @@ static uint32_t run_refusal(const chudravik_counts *counts, const uint16_t *tabl
     if (w > CHUDRAVIK_MOST_INTERVAL) {
         return CHUDRAVIK_INTERVAL;
     }
-    size_t length = record_length(counts->latches);
-    if (cubes_bytes < length || cubes_bytes > CHUDRAVIK_MOST_CUBE_BYTES) {
+    if (cubes_bytes < record_length(counts->latches) || cubes_bytes > CHUDRAVIK_MOST_CUBE_BYTES) {
         return CHUDRAVIK_CUBE_BUFFER;
-    }
-    if (verdict_bytes < record_length(counts->lamps) || settled_bytes < length) {
-        return CHUDRAVIK_TOO_SHORT;
     }
     return CHUDRAVIK_ACCEPTED;
 }
 
-chudravik_run_answer plain_run(chudravik_counts counts, const uint16_t *table, size_t table_words, size_t w,
-                               uint8_t *cubes, size_t cubes_bytes, uint8_t *verdict, size_t verdict_bytes,
-                               uint8_t *settled, size_t settled_bytes)
+chudravik_chain_answer plain_chain(chudravik_counts counts, const uint16_t *table, size_t table_words, size_t w,
+                                   uint8_t *cubes, size_t cubes_bytes)
 {
-    chudravik_run_answer answer = {0};
-    answer.number = run_refusal(&counts, table, table_words, w, cubes_bytes, verdict_bytes, settled_bytes);
-    if (answer.number != CHUDRAVIK_ACCEPTED) {
-        return answer;
+    uint32_t number = chain_refusal(&counts, table, table_words, w, cubes_bytes);
+    if (number != CHUDRAVIK_ACCEPTED) {
+        return (chudravik_chain_answer){number, 0, 0};
     }
-    size_t length = record_length(counts.latches);
     size_t n, j;
-    bool closed = follow(&counts, table, w, cubes, cubes_bytes / length, &n, &j);
-    answer.cubes = n;
-    if (!closed) {
-        answer.number = CHUDRAVIK_NO_ROOM;
-        return answer;
+    if (!follow(&counts, table, w, cubes, cubes_bytes / record_length(counts.latches), &n, &j)) {
+        return (chudravik_chain_answer){CHUDRAVIK_NO_ROOM, n, 0};
     }
-    judge_lamps(&counts, table, cubes, n, verdict);
-    settle_latches(cubes, length, n, j, settled);
-    answer.back = j;
-    answer.settled = known_fields(settled, counts.latches);
-    return answer;
+    return (chudravik_chain_answer){CHUDRAVIK_ACCEPTED, n, j};
 }
 
-/* ---- the cover ---- */
+/* ---- given cubes ---- */
 
-/* "3, 10 for the table, 11, 10 for n records, 14" */
+/* "3, 16, 10 for the table, 11, 10 for n records, 14" */
 static uint32_t given_refusal(const chudravik_counts *counts, const uint16_t *table, size_t table_words,
                               const uint8_t *cubes, size_t cubes_bytes, size_t n)
 {
@@ -444,6 +405,73 @@ static uint32_t given_refusal(const chudravik_counts *counts, const uint16_t *ta
     return CHUDRAVIK_ACCEPTED;
 }
 
+/* "per lamp 01 (never) if 0 in all n cubes, 10 (always) if 1 in all, else 00 (open)": the lamps of one cube more. */
+static void judge_lamps(const chudravik_counts *counts, const uint16_t *table, const uint8_t *values, bool first,
+                        uint8_t *verdict)
+{
+    uint8_t lamps[MOST_LAMP_RECORD];
+    if (first) {
+        store_lamps(counts, table, values, verdict);
+    } else {
+        store_lamps(counts, table, values, lamps);
+        agree(verdict, lamps, record_length(counts->lamps));
+    }
+}
+
+/* ---- judging a chain ---- */
+
+/* "per latch the known value shared by cubes j to n - 1, else 00" */
+static void settle_latches(const uint8_t *cubes, size_t length, size_t n, size_t j, uint8_t *settled)
+{
+    memcpy(settled, cubes + j * length, length);
+    for (size_t k = j + 1; k < n; k++) {
+        agree(settled, cubes + k * length, length);
+    }
+}
+
+/* "the next state of each cube but the last lies inside the following cube, and that of the last inside cube j"; where it
+ * does the lamps are judged. One pass a cube gives its next state and its lamps. */
+static bool closed(const chudravik_counts *counts, const uint16_t *table, const uint8_t *cubes, size_t n, size_t j,
+                   uint8_t *verdict)
+{
+    size_t length = record_length(counts->latches);
+    uint8_t values[VALUE_BYTES] = {CHUDRAVIK_LOW << 6};
+    uint8_t next[MOST_RECORD];
+    for (size_t k = 0; k < n; k++) {
+        settle_state(counts, table, cubes + k * length, values);
+        store_next(counts, table, values, next);
+        if (search(cubes + (k + 1 < n ? k + 1 : j) * length, length, 1, next) != 0) {
+            return false;
+        }
+        judge_lamps(counts, table, values, k == 0, verdict);
+    }
+    return true;
+}
+
+chudravik_judge_answer plain_judge(chudravik_counts counts, const uint16_t *table, size_t table_words,
+                                   const uint8_t *cubes, size_t cubes_bytes, size_t n, size_t j, uint8_t *verdict,
+                                   size_t verdict_bytes, uint8_t *settled, size_t settled_bytes)
+{
+    uint32_t number = given_refusal(&counts, table, table_words, cubes, cubes_bytes, n);
+    if (number != CHUDRAVIK_ACCEPTED) {
+        return (chudravik_judge_answer){number, 0};
+    }
+    size_t length = record_length(counts.latches);
+    uint8_t start[MOST_RECORD], lamps[MOST_LAMP_RECORD];
+    store_start(table, counts.latches, start);
+    if (j >= n || memcmp(cubes, start, length) != 0 || !closed(&counts, table, cubes, n, j, lamps)) {
+        return (chudravik_judge_answer){CHUDRAVIK_NOT_A_CHAIN, 0};
+    }
+    if (verdict_bytes < record_length(counts.lamps) || settled_bytes < length) {
+        return (chudravik_judge_answer){CHUDRAVIK_TOO_SHORT, 0};
+    }
+    memcpy(verdict, lamps, record_length(counts.lamps));
+    settle_latches(cubes, length, n, j, settled);
+    return (chudravik_judge_answer){CHUDRAVIK_ACCEPTED, known_fields(settled, counts.latches)};
+}
+
+/* ---- the cover ---- */
+
 /* "the number of the first cube whose next state is not inside a single cube": n if each is, and then all lamps are
  * judged. One pass a cube gives its next state and its lamps. */
 static size_t first_uncovered(const chudravik_counts *counts, const uint16_t *table, const uint8_t *cubes, size_t n,
@@ -452,17 +480,13 @@ static size_t first_uncovered(const chudravik_counts *counts, const uint16_t *ta
     size_t length = record_length(counts->latches);
     uint8_t values[VALUE_BYTES] = {CHUDRAVIK_LOW << 6};
     uint8_t next[MOST_RECORD];
-    uint8_t lamps[MOST_LAMP_RECORD];
     for (size_t k = 0; k < n; k++) {
         settle_state(counts, table, cubes + k * length, values);
         store_next(counts, table, values, next);
         if (search(cubes, length, n, next) == n) {
             return k;
         }
-        store_lamps(counts, table, values, k == 0 ? verdict : lamps);
-        if (k > 0) {
-            agree(verdict, lamps, record_length(counts->lamps));
-        }
+        judge_lamps(counts, table, values, k == 0, verdict);
     }
     return n;
 }

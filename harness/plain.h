@@ -14,9 +14,12 @@ uint32_t plain_tick(chudravik_counts counts, const uint16_t *table, size_t table
                     size_t state_bytes, const uint8_t *switches, size_t switches_bytes, uint8_t *next,
                     size_t next_bytes, uint8_t *lamps, size_t lamps_bytes);
 
-chudravik_run_answer plain_run(chudravik_counts counts, const uint16_t *table, size_t table_words, size_t w,
-                               uint8_t *cubes, size_t cubes_bytes, uint8_t *verdict, size_t verdict_bytes,
-                               uint8_t *settled, size_t settled_bytes);
+chudravik_chain_answer plain_chain(chudravik_counts counts, const uint16_t *table, size_t table_words, size_t w,
+                                   uint8_t *cubes, size_t cubes_bytes);
+
+chudravik_judge_answer plain_judge(chudravik_counts counts, const uint16_t *table, size_t table_words,
+                                   const uint8_t *cubes, size_t cubes_bytes, size_t n, size_t j, uint8_t *verdict,
+                                   size_t verdict_bytes, uint8_t *settled, size_t settled_bytes);
 
 chudravik_cover_answer plain_cover(chudravik_counts counts, const uint16_t *table, size_t table_words,
                                    const uint8_t *cubes, size_t cubes_bytes, size_t n, uint8_t *verdict,

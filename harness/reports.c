@@ -156,13 +156,18 @@ static void say_run(chudravik_counts counts, const uint16_t *table, size_t words
     static uint8_t cubes[CUBE_BYTES];
     uint8_t verdict[CHUDRAVIK_RECORD_BYTES(CHUDRAVIK_MOST_LAMPS)];
     uint8_t settled[CHUDRAVIK_RECORD_BYTES(CHUDRAVIK_MOST_LATCHES)];
-    chudravik_run_answer run = simulate_run(counts, table, words, INTERVAL, cubes, sizeof cubes, verdict,
-                                            sizeof verdict, settled, sizeof settled);
-    if (run.number != CHUDRAVIK_ACCEPTED) {
-        say_refusal(run.number);
+    chudravik_chain_answer chain = simulate_chain(counts, table, words, INTERVAL, cubes, sizeof cubes);
+    if (chain.number != CHUDRAVIK_ACCEPTED) {
+        say_refusal(chain.number);
         return;
     }
-    say("cubes %zu back %zu settled %zu\n", run.cubes, run.back, run.settled);
+    chudravik_judge_answer judge = simulate_judge(counts, table, words, cubes, sizeof cubes, chain.cubes, chain.back,
+                                                  verdict, sizeof verdict, settled, sizeof settled);
+    if (judge.number != CHUDRAVIK_ACCEPTED) {
+        fputs("reports: the simulator refuses its own chain\n", stderr);
+        exit(2);
+    }
+    say("cubes %zu back %zu settled %zu\n", chain.cubes, chain.back, judge.settled);
     say_lamps(verdict, counts.lamps);
     say_latches(settled, counts.latches);
 }

@@ -167,7 +167,7 @@ static uint32_t take_circuit(circuit *c, chudravik_counts counts, const uint16_t
     return sound(c) ? 0 : 11;
 }
 
-/* The run's and the cover's: 16, no lamps, directly after 3. */
+/* Where lamps are judged, now or later: 16, no lamps, directly after 3. */
 static uint32_t take_board(circuit *c, chudravik_counts counts, const uint16_t *table, size_t table_words)
 {
     if (within_ceilings(counts) && counts.lamps == 0)
@@ -546,7 +546,7 @@ uint32_t simulate_tick(chudravik_counts counts, const uint16_t *table, size_t ta
     return 0;
 }
 
-/* ---- run ---- */
+/* ---- chain ---- */
 
 typedef struct {
     const circuit *circuit;
@@ -554,7 +554,6 @@ typedef struct {
     size_t count; /* of cubes */
     size_t space;
     bool held[LATCHES_CEILING];
-    value verdict[LAMPS_CEILING]; /* over the cubes that were followed so far */
 } chain;
 
 static value *cube(const chain *run, size_t k)
@@ -591,27 +590,20 @@ static void start(chain *run)
     add_cube(run, resets);
 }
 
-/* What two values have in common. */
-static value shared(value one, value other)
+/* The next state and the lamps of a cube, all switches X. */
+static void follow_cube(const chain *run, size_t k, value *next, value *lamps)
 {
-    return one == other ? one : UNKNOWN;
-}
-
-static void note_lamps(chain *run, const value *lamps)
-{
-    for (size_t i = 0; i < run->circuit->lamps; i++)
-        run->verdict[i] = run->count == 1 ? lamps[i] : shared(run->verdict[i], lamps[i]);
-}
-
-/* Step 1, from the last cube; its lamps are noted in the same go, so each cube's are noted once. */
-static void follow(chain *run, value *b)
-{
-    const circuit *c = run->circuit;
-    value lamps[LAMPS_CEILING], switches[INPUTS_CEILING];
+    value switches[INPUTS_CEILING];
     memset(switches, UNKNOWN, sizeof switches);
-    tick(c, cube(run, run->count - 1), switches, b, lamps);
-    note_lamps(run, lamps);
-    for (size_t i = 0; i < c->latches; i++)
+    tick(run->circuit, cube(run, k), switches, next, lamps);
+}
+
+/* Step 1, from the last cube. */
+static void follow(const chain *run, value *b)
+{
+    value lamps[LAMPS_CEILING];
+    follow_cube(run, run->count - 1, b, lamps);
+    for (size_t i = 0; i < run->circuit->latches; i++)
         if (run->held[i])
             b[i] = UNKNOWN;
 }
@@ -660,65 +652,37 @@ static size_t run_on(chain *run, size_t w, size_t room)
     }
 }
 
-static void settle(const chain *run, size_t j, value *settled)
-{
-    size_t latches = run->circuit->latches;
-    memcpy(settled, cube(run, j), latches);
-    for (size_t k = j + 1; k < run->count; k++)
-        for (size_t i = 0; i < latches; i++)
-            settled[i] = shared(settled[i], cube(run, k)[i]);
-}
-
-static size_t known_fields(const value *field, size_t fields)
-{
-    size_t known = 0;
-    for (size_t i = 0; i < fields; i++)
-        known += field[i] != UNKNOWN;
-    return known;
-}
-
-static chudravik_run_answer run_circuit(const circuit *c, size_t w, uint8_t *cubes, size_t room, uint8_t *verdict,
-                                        uint8_t *settled)
+static chudravik_chain_answer run_circuit(const circuit *c, size_t w, uint8_t *cubes, size_t room)
 {
     chain run = {.circuit = c};
     size_t j = run_on(&run, w, room);
     for (size_t k = 0; k < run.count; k++)
         pack(cube(&run, k), c->latches, cubes + k * record_length(c->latches));
-    chudravik_run_answer answer = {.number = 15, .cubes = run.count};
-    if (j < run.count) {
-        value kept[LATCHES_CEILING];
-        settle(&run, j, kept);
-        pack(kept, c->latches, settled);
-        pack(run.verdict, c->lamps, verdict);
-        answer = (chudravik_run_answer){0, run.count, j, known_fields(kept, c->latches)};
-    }
+    chudravik_chain_answer answer = {.number = j < run.count ? 0 : 15, .cubes = run.count, .back = j < run.count ? j : 0};
     free(run.field);
     return answer;
 }
 
-static uint32_t judge_run(const circuit *c, size_t w, size_t cubes_bytes, size_t verdict_bytes, size_t settled_bytes)
+static uint32_t judge_run(const circuit *c, size_t w, size_t cubes_bytes)
 {
     if (w > INTERVAL_CEILING)
         return 12;
-    if (cubes_bytes < record_length(c->latches) || cubes_bytes > CUBES_CEILING)
-        return 13;
-    return verdict_bytes < record_length(c->lamps) || settled_bytes < record_length(c->latches) ? 10 : 0;
+    return cubes_bytes < record_length(c->latches) || cubes_bytes > CUBES_CEILING ? 13 : 0;
 }
 
-chudravik_run_answer simulate_run(chudravik_counts counts, const uint16_t *table, size_t table_words, size_t w,
-                                  uint8_t *cubes, size_t cubes_bytes, uint8_t *verdict, size_t verdict_bytes,
-                                  uint8_t *settled, size_t settled_bytes)
+chudravik_chain_answer simulate_chain(chudravik_counts counts, const uint16_t *table, size_t table_words, size_t w,
+                                      uint8_t *cubes, size_t cubes_bytes)
 {
     circuit c;
     uint32_t refusal = take_board(&c, counts, table, table_words);
     if (refusal == 0)
-        refusal = judge_run(&c, w, cubes_bytes, verdict_bytes, settled_bytes);
+        refusal = judge_run(&c, w, cubes_bytes);
     if (refusal != 0)
-        return (chudravik_run_answer){.number = refusal};
-    return run_circuit(&c, w, cubes, cubes_bytes / record_length(c.latches), verdict, settled);
+        return (chudravik_chain_answer){.number = refusal};
+    return run_circuit(&c, w, cubes, cubes_bytes / record_length(c.latches));
 }
 
-/* ---- a sent cover ---- */
+/* ---- given cubes ---- */
 
 /* Refusals 10 and 14 of the n records; the buffer may have any length, and n any size. */
 static uint32_t judge_cubes(const circuit *c, const uint8_t *cubes, size_t cubes_bytes, size_t n)
@@ -743,6 +707,101 @@ static chain take_cubes(const circuit *c, const uint8_t *cubes, size_t n)
     return sent;
 }
 
+/* What two values have in common. */
+static value shared(value one, value other)
+{
+    return one == other ? one : UNKNOWN;
+}
+
+static void judge_lamps(const chain *sent, value *verdict)
+{
+    value b[LATCHES_CEILING], lamps[LAMPS_CEILING];
+    for (size_t k = 0; k < sent->count; k++) {
+        follow_cube(sent, k, b, lamps);
+        for (size_t i = 0; i < sent->circuit->lamps; i++)
+            verdict[i] = k == 0 ? lamps[i] : shared(verdict[i], lamps[i]);
+    }
+}
+
+/* ---- judge ---- */
+
+static bool starts_with_resets(const chain *sent)
+{
+    value resets[LATCHES_CEILING];
+    set_resets(sent->circuit, resets);
+    return memcmp(resets, cube(sent, 0), sent->circuit->latches) == 0;
+}
+
+static bool next_lies_inside(const chain *sent, size_t k, size_t other)
+{
+    value b[LATCHES_CEILING], lamps[LAMPS_CEILING];
+    follow_cube(sent, k, b, lamps);
+    return subsumes(cube(sent, other), b, sent->circuit->latches);
+}
+
+/* "j is below n, cube 0 is the resets, the next state of each cube but the last lies inside the following cube, and that
+ * of the last inside cube j" */
+static bool is_closed_chain(const chain *sent, size_t j)
+{
+    if (j >= sent->count || !starts_with_resets(sent))
+        return false;
+    for (size_t k = 0; k + 1 < sent->count; k++)
+        if (!next_lies_inside(sent, k, k + 1))
+            return false;
+    return next_lies_inside(sent, sent->count - 1, j);
+}
+
+static void settle(const chain *sent, size_t j, value *settled)
+{
+    size_t latches = sent->circuit->latches;
+    memcpy(settled, cube(sent, j), latches);
+    for (size_t k = j + 1; k < sent->count; k++)
+        for (size_t i = 0; i < latches; i++)
+            settled[i] = shared(settled[i], cube(sent, k)[i]);
+}
+
+static size_t known_fields(const value *field, size_t fields)
+{
+    size_t known = 0;
+    for (size_t i = 0; i < fields; i++)
+        known += field[i] != UNKNOWN;
+    return known;
+}
+
+static chudravik_judge_answer judge_chain(const chain *sent, size_t j, uint8_t *verdict, size_t verdict_bytes,
+                                          uint8_t *settled, size_t settled_bytes)
+{
+    const circuit *c = sent->circuit;
+    if (!is_closed_chain(sent, j))
+        return (chudravik_judge_answer){.number = 19};
+    if (verdict_bytes < record_length(c->lamps) || settled_bytes < record_length(c->latches))
+        return (chudravik_judge_answer){.number = 10};
+    value lamps[LAMPS_CEILING], kept[LATCHES_CEILING];
+    judge_lamps(sent, lamps);
+    pack(lamps, c->lamps, verdict);
+    settle(sent, j, kept);
+    pack(kept, c->latches, settled);
+    return (chudravik_judge_answer){0, known_fields(kept, c->latches)};
+}
+
+chudravik_judge_answer simulate_judge(chudravik_counts counts, const uint16_t *table, size_t table_words,
+                                      const uint8_t *cubes, size_t cubes_bytes, size_t n, size_t j, uint8_t *verdict,
+                                      size_t verdict_bytes, uint8_t *settled, size_t settled_bytes)
+{
+    circuit c;
+    uint32_t refusal = take_board(&c, counts, table, table_words);
+    if (refusal == 0)
+        refusal = judge_cubes(&c, cubes, cubes_bytes, n);
+    if (refusal != 0)
+        return (chudravik_judge_answer){.number = refusal};
+    chain sent = take_cubes(&c, cubes, n);
+    chudravik_judge_answer answer = judge_chain(&sent, j, verdict, verdict_bytes, settled, settled_bytes);
+    free(sent.field);
+    return answer;
+}
+
+/* ---- a sent cover ---- */
+
 static bool lies_inside(const chain *sent, const value *b)
 {
     return search(sent, b) < sent->count;
@@ -758,26 +817,14 @@ static bool start_lies_inside(const chain *sent)
 /* The first cube whose next state, all switches X, is not inside a single cube, or the count of cubes. */
 static size_t first_that_leaves(const chain *sent)
 {
-    value b[LATCHES_CEILING], lamps[LAMPS_CEILING], switches[INPUTS_CEILING];
-    memset(switches, UNKNOWN, sizeof switches);
+    value b[LATCHES_CEILING], lamps[LAMPS_CEILING];
     size_t k = 0;
     for (; k < sent->count; k++) {
-        tick(sent->circuit, cube(sent, k), switches, b, lamps);
+        follow_cube(sent, k, b, lamps);
         if (!lies_inside(sent, b))
             break;
     }
     return k;
-}
-
-static void judge_lamps(const chain *sent, value *verdict)
-{
-    value b[LATCHES_CEILING], lamps[LAMPS_CEILING], switches[INPUTS_CEILING];
-    memset(switches, UNKNOWN, sizeof switches);
-    for (size_t k = 0; k < sent->count; k++) {
-        tick(sent->circuit, cube(sent, k), switches, b, lamps);
-        for (size_t i = 0; i < sent->circuit->lamps; i++)
-            verdict[i] = k == 0 ? lamps[i] : shared(verdict[i], lamps[i]);
-    }
 }
 
 static chudravik_cover_answer judge_cover(const chain *sent, uint8_t *verdict, size_t verdict_bytes)

@@ -34,7 +34,7 @@ static uint8_t lamps[CHUDRAVIK_RECORD_BYTES(CHUDRAVIK_MOST_LAMPS)];
 static uint8_t settled[CHUDRAVIK_RECORD_BYTES(CHUDRAVIK_MOST_LATCHES)];
 static uint16_t renumbered[CHUDRAVIK_MOST_LIST_WORDS];
 static uint32_t number;
-static size_t stored;
+static size_t stored, back;
 
 static void call_nothing(void)
 {
@@ -64,22 +64,29 @@ static void call_tick(void)
                             sizeof switches, settled, sizeof settled, lamps, sizeof lamps);
 }
 
-static void call_run(void)
+static void call_chain(void)
 {
-    chudravik_run_answer answer = chudravik_run(counts, table, CHUDRAVIK_MOST_TABLE_WORDS, 16, cubes, sizeof cubes, lamps,
-                                                sizeof lamps, settled, sizeof settled);
+    chudravik_chain_answer answer = chudravik_chain(counts, table, CHUDRAVIK_MOST_TABLE_WORDS, 16, cubes, sizeof cubes);
     number = answer.number;
     stored = answer.cubes;
+    back = answer.back;
 }
 
-/* The cubes that the run left. */
+/* The cubes that the chain left. */
+static void call_judge(void)
+{
+    number = chudravik_judge(counts, table, CHUDRAVIK_MOST_TABLE_WORDS, cubes, sizeof cubes, stored, back, lamps,
+                             sizeof lamps, settled, sizeof settled)
+                 .number;
+}
+
 static void call_cover(void)
 {
     number = chudravik_cover(counts, table, CHUDRAVIK_MOST_TABLE_WORDS, cubes, sizeof cubes, stored, lamps, sizeof lamps)
                  .number;
 }
 
-/* A shift register with gates on its way: the run goes through many cubes, and closes. */
+/* A shift register with gates on its way: the chain goes through many cubes, and closes. */
 static void make_circuit(void)
 {
     size_t first_latch = 2 * (1 + counts.inputs), first_gate = first_latch + 2 * counts.latches;
@@ -123,7 +130,8 @@ static const named_call WRITE = {"write", call_write, CHUDRAVIK_MOST_STACK},
                         READ = {"read", call_read, CHUDRAVIK_MOST_STACK},
                         READ_ANY = {"read_any", call_read_any, CHUDRAVIK_MOST_ANY_STACK},
                         TICK = {"tick", call_tick, CHUDRAVIK_MOST_STACK},
-                        RUN = {"run", call_run, CHUDRAVIK_MOST_STACK},
+                        CHAIN = {"chain", call_chain, CHUDRAVIK_MOST_STACK},
+                        JUDGE = {"judge", call_judge, CHUDRAVIK_MOST_STACK},
                         COVER = {"cover", call_cover, CHUDRAVIK_MOST_STACK};
 static size_t nothing;
 
@@ -140,8 +148,8 @@ static int accepted(const char *what)
 {
     return measured(WRITE, what, CHUDRAVIK_ACCEPTED) & measured(READ, what, CHUDRAVIK_ACCEPTED) &
            measured(READ_ANY, what, CHUDRAVIK_ACCEPTED) &
-           measured(TICK, what, CHUDRAVIK_ACCEPTED) & measured(RUN, what, CHUDRAVIK_ACCEPTED) &
-           measured(COVER, what, CHUDRAVIK_ACCEPTED);
+           measured(TICK, what, CHUDRAVIK_ACCEPTED) & measured(CHAIN, what, CHUDRAVIK_ACCEPTED) &
+           measured(JUDGE, what, CHUDRAVIK_ACCEPTED) & measured(COVER, what, CHUDRAVIK_ACCEPTED);
 }
 
 static int refused(const char *what)
@@ -152,8 +160,10 @@ static int refused(const char *what)
     latches[sizeof latches - 1] = 3;
     passed &= measured(TICK, what, CHUDRAVIK_RECORD);
     latches[sizeof latches - 1] = 0;
+    back = stored;
+    passed &= measured(JUDGE, what, CHUDRAVIK_NOT_A_CHAIN);
     table[CHUDRAVIK_MOST_TABLE_WORDS - 1] = UINT16_MAX;
-    passed &= measured(WRITE, what, CHUDRAVIK_TABLE) & measured(RUN, what, CHUDRAVIK_TABLE) &
+    passed &= measured(WRITE, what, CHUDRAVIK_TABLE) & measured(CHAIN, what, CHUDRAVIK_TABLE) &
               measured(COVER, what, CHUDRAVIK_TABLE);
     table[CHUDRAVIK_MOST_TABLE_WORDS - 1] = 0;
     return passed;

@@ -23,7 +23,6 @@ static uint64_t seed;
 typedef struct {
     pthread_t thread;
     uint64_t number;
-    size_t accepted[CALLS];
     twice t;
     uint8_t string[CORPUS_LONGEST];
 } worker;
@@ -55,11 +54,12 @@ static const uint16_t shared_table[] = {4, 0, 2, 1, 6, 4, 2};
 static void run_shared(worker *w)
 {
     uint8_t cubes[2], verdict, settled;
-    chudravik_run_answer run =
-        chudravik_run(shared_counts, shared_table, sizeof shared_table / sizeof shared_table[0], 0, cubes, sizeof cubes,
-                      &verdict, 1, &settled, 1);
-    if (run.number != CHUDRAVIK_ACCEPTED || run.cubes != 2 || run.back != 0 || run.settled != 0 || cubes[0] != 0x60 ||
-        cubes[1] != 0x90 || verdict != 0x40 || settled != 0)
+    size_t words = sizeof shared_table / sizeof shared_table[0];
+    chudravik_chain_answer chain = chudravik_chain(shared_counts, shared_table, words, 0, cubes, sizeof cubes);
+    chudravik_judge_answer judge = chudravik_judge(shared_counts, shared_table, words, cubes, sizeof cubes, chain.cubes,
+                                                   chain.back, &verdict, 1, &settled, 1);
+    if (chain.number != CHUDRAVIK_ACCEPTED || chain.cubes != 2 || chain.back != 0 || cubes[0] != 0x60 ||
+        cubes[1] != 0x90 || judge.number != CHUDRAVIK_ACCEPTED || judge.settled != 0 || verdict != 0x40 || settled != 0)
         fail(w, "the shared circuit did not run as it must");
 }
 
@@ -69,12 +69,8 @@ static void *work(void *given)
     throw_dice(seed, w->number);
     for (size_t i = 0; i < calls_each; i++) {
         size_t bytes = take_string(w);
-        bool same = encoded_make(&w->t, w->string, bytes);
-        for (size_t time = 1; time < TIMES && same; time++)
-            same = twice_again(&w->t);
-        if (!same)
+        if (!encoded_make(&w->t, w->string, bytes, TIMES))
             fail(w, w->t.difference);
-        w->accepted[w->t.call] += w->t.library.number == CHUDRAVIK_ACCEPTED;
         if (i % SHARED_EVERY == 0)
             run_shared(w);
     }
@@ -93,7 +89,7 @@ static size_t sum_accepted(const worker *workers, size_t call)
 {
     size_t sum = 0;
     for (size_t i = 0; i < THREADS; i++)
-        sum += workers[i].accepted[call];
+        sum += workers[i].t.accepted[call];
     return sum;
 }
 

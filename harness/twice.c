@@ -6,7 +6,7 @@
 #include <stdlib.h>
 #include <string.h>
 
-const char *const call_names[CALLS] = {"read", "read_any", "write", "tick", "run", "cover"};
+const char *const call_names[CALLS] = {"read", "read_any", "write", "tick", "chain", "judge", "cover"};
 const char *const role_names[ROLES] = {"text",  "table", "list",    "state",  "switches",
                                        "next",  "lamps", "cubes",   "verdict", "settled"};
 
@@ -31,13 +31,13 @@ void twice_take_memory(twice *t)
     }
 }
 
-void twice_begin(twice *t, enum call call, chudravik_counts counts, size_t w)
+void twice_begin(twice *t, enum call call, chudravik_counts counts, numbers with)
 {
     for (size_t role = 0; role < ROLES; role++)
         t->lent[role].used = false;
     t->call = call;
     t->counts = counts;
-    t->w = w;
+    t->with = with;
 }
 
 uint8_t *twice_content(twice *t, enum role role)
@@ -163,26 +163,42 @@ static answer simulator_ticks(const twice *t)
     return (answer){.number = number};
 }
 
-static answer library_runs(const twice *t)
+static answer library_chains(const twice *t)
 {
-    chudravik_run_answer run =
-        chudravik_run(t->counts, library_table(t), table_words(t), t->w, of_library(t, CUBES), bytes_of(t, CUBES),
-                      of_library(t, VERDICT), bytes_of(t, VERDICT), of_library(t, SETTLED), bytes_of(t, SETTLED));
-    return (answer){.number = run.number, .cubes = run.cubes, .back = run.back, .settled = run.settled};
+    chudravik_chain_answer chain = chudravik_chain(t->counts, library_table(t), table_words(t), t->with.w,
+                                                   of_library(t, CUBES), bytes_of(t, CUBES));
+    return (answer){.number = chain.number, .cubes = chain.cubes, .back = chain.back};
 }
 
-static answer simulator_runs(const twice *t)
+static answer simulator_chains(const twice *t)
 {
-    chudravik_run_answer run =
-        simulate_run(t->counts, simulator_table(t), table_words(t), t->w, of_simulator(t, CUBES), bytes_of(t, CUBES),
-                     of_simulator(t, VERDICT), bytes_of(t, VERDICT), of_simulator(t, SETTLED), bytes_of(t, SETTLED));
-    return (answer){.number = run.number, .cubes = run.cubes, .back = run.back, .settled = run.settled};
+    chudravik_chain_answer chain = simulate_chain(t->counts, simulator_table(t), table_words(t), t->with.w,
+                                                  of_simulator(t, CUBES), bytes_of(t, CUBES));
+    return (answer){.number = chain.number, .cubes = chain.cubes, .back = chain.back};
+}
+
+static answer library_judges(const twice *t)
+{
+    chudravik_judge_answer judge =
+        chudravik_judge(t->counts, library_table(t), table_words(t), of_library(t, CUBES), bytes_of(t, CUBES), t->with.n,
+                        t->with.j, of_library(t, VERDICT), bytes_of(t, VERDICT), of_library(t, SETTLED),
+                        bytes_of(t, SETTLED));
+    return (answer){.number = judge.number, .settled = judge.settled};
+}
+
+static answer simulator_judges(const twice *t)
+{
+    chudravik_judge_answer judge =
+        simulate_judge(t->counts, simulator_table(t), table_words(t), of_simulator(t, CUBES), bytes_of(t, CUBES),
+                       t->with.n, t->with.j, of_simulator(t, VERDICT), bytes_of(t, VERDICT), of_simulator(t, SETTLED),
+                       bytes_of(t, SETTLED));
+    return (answer){.number = judge.number, .settled = judge.settled};
 }
 
 static answer library_covers(const twice *t)
 {
     chudravik_cover_answer cover =
-        chudravik_cover(t->counts, library_table(t), table_words(t), of_library(t, CUBES), bytes_of(t, CUBES), t->w,
+        chudravik_cover(t->counts, library_table(t), table_words(t), of_library(t, CUBES), bytes_of(t, CUBES), t->with.n,
                         of_library(t, VERDICT), bytes_of(t, VERDICT));
     return (answer){.number = cover.number, .cube = cover.cube};
 }
@@ -190,7 +206,7 @@ static answer library_covers(const twice *t)
 static answer simulator_covers(const twice *t)
 {
     chudravik_cover_answer cover =
-        simulate_cover(t->counts, simulator_table(t), table_words(t), of_simulator(t, CUBES), bytes_of(t, CUBES), t->w,
+        simulate_cover(t->counts, simulator_table(t), table_words(t), of_simulator(t, CUBES), bytes_of(t, CUBES), t->with.n,
                        of_simulator(t, VERDICT), bytes_of(t, VERDICT));
     return (answer){.number = cover.number, .cube = cover.cube};
 }
@@ -198,12 +214,13 @@ static answer simulator_covers(const twice *t)
 typedef answer call_of(const twice *t);
 
 static call_of *const by_library[CALLS] = {
-    [READ] = library_reads,  [READ_ANY] = library_reads_any, [WRITE] = library_writes,
-    [TICK] = library_ticks,  [RUN] = library_runs,           [COVER] = library_covers,
+    [READ] = library_reads,   [READ_ANY] = library_reads_any, [WRITE] = library_writes, [TICK] = library_ticks,
+    [CHAIN] = library_chains, [JUDGE] = library_judges,       [COVER] = library_covers,
 };
 static call_of *const by_simulator[CALLS] = {
-    [READ] = simulator_reads,  [READ_ANY] = simulator_reads_any, [WRITE] = simulator_writes,
-    [TICK] = simulator_ticks,  [RUN] = simulator_runs,           [COVER] = simulator_covers,
+    [READ] = simulator_reads,   [READ_ANY] = simulator_reads_any, [WRITE] = simulator_writes,
+    [TICK] = simulator_ticks,   [CHAIN] = simulator_chains,       [JUDGE] = simulator_judges,
+    [COVER] = simulator_covers,
 };
 
 /* ---- what is compared ---- */
@@ -275,6 +292,8 @@ bool twice_make(twice *t)
 {
     t->library = by_library[t->call](t);
     t->simulator = by_simulator[t->call](t);
+    t->made[t->call]++;
+    t->accepted[t->call] += t->library.number == CHUDRAVIK_ACCEPTED;
     return same_answers(t) && same_buffers(t) && whole_beyond(t);
 }
 
@@ -296,8 +315,8 @@ static void show_buffer(const char *name, const lent *l)
 
 void twice_show(const twice *t)
 {
-    fprintf(stderr, "  call %s, I %zu, L %zu, O %zu, A %zu, w (or n) %zu\n", call_names[t->call], t->counts.inputs,
-            t->counts.latches, t->counts.lamps, t->counts.gates, t->w);
+    fprintf(stderr, "  call %s, I %zu, L %zu, O %zu, A %zu, w %zu, n %zu, j %zu\n", call_names[t->call],
+            t->counts.inputs, t->counts.latches, t->counts.lamps, t->counts.gates, t->with.w, t->with.n, t->with.j);
     for (size_t role = 0; role < ROLES; role++)
         if (t->lent[role].used)
             show_buffer(role_names[role], &t->lent[role]);

@@ -9,7 +9,7 @@
 #include "guarded.h"
 #include "simulator.h"
 
-enum call { READ, READ_ANY, WRITE, TICK, RUN, COVER, CALLS };
+enum call { READ, READ_ANY, WRITE, TICK, CHAIN, JUDGE, COVER, CALLS };
 
 enum role { TEXT, TABLE, LIST, STATE, SWITCHES, NEXT, LAMPS, CUBES, VERDICT, SETTLED, ROLES };
 
@@ -45,20 +45,28 @@ typedef struct {
     size_t cube;
 } answer;
 
+/* What a call is handed besides its counts. */
+typedef struct {
+    size_t w;
+    size_t n;
+    size_t j;
+} numbers;
+
 typedef struct {
     enum call call;
     chudravik_counts counts;
-    size_t w; /* of a run; of a cover its n */
+    numbers with;
     lent lent[ROLES];
     answer library;
     answer simulator;
     char difference[160];
+    size_t made[CALLS], accepted[CALLS]; /* by twice_make, since the memory was taken */
 } twice;
 
 void twice_take_memory(twice *t);
 
 /* Nothing is lent yet. */
-void twice_begin(twice *t, enum call call, chudravik_counts counts, size_t w);
+void twice_begin(twice *t, enum call call, chudravik_counts counts, numbers with);
 
 /* What a buffer is to hold before the call is laid here first. */
 uint8_t *twice_content(twice *t, enum role role);

@@ -1,6 +1,6 @@
 /* Chudravik: reads a logic circuit (AIGER ASCII), follows it in 0, 1 and X, and says which lamps can never light.
  *
- * Five calls, each with no state behind it: it reads what it is given, fills what it is lent, and answers a number.
+ * No call has a state behind it: it reads what it is given, fills what it is lent, and answers a number.
  * 0 is accepted; any other number is a refusal (below). Every call ends, for any numbers and any bytes.
  *
  * A buffer is a pointer and a length: in bytes, and for a table in 16-bit words. Nothing beyond a buffer's length is
@@ -74,8 +74,8 @@ extern "C" {
  * where it is lent. */
 #define CHUDRAVIK_RECORD_BYTES(fields) ((size_t)(fields) == 0 ? (size_t)1 : ((size_t)(fields) + 3) / 4)
 
-/* Bytes of a cube buffer that are always enough for a run with w >= 1: room for w + latches cubes, and for one where there
- * is no latch. Such a run is never refused with 15. No buffer is longer than CHUDRAVIK_MOST_CUBE_BYTES (13); with w = 16
+/* Bytes of a cube buffer that are always enough for a chain with w >= 1: room for w + latches cubes, and for one where there
+ * is no latch. Such a chain is never refused with 15. No buffer is longer than CHUDRAVIK_MOST_CUBE_BYTES (13); with w = 16
  * that is always enough for up to 504 latches. */
 #define CHUDRAVIK_ROOM_BYTES(w, latches) \
     ((size_t)(latches) == 0 ? (size_t)1 : ((size_t)(w) + (size_t)(latches)) * CHUDRAVIK_RECORD_BYTES(latches))
@@ -104,15 +104,16 @@ extern "C" {
 #define CHUDRAVIK_CUBE_BUFFER 13        /* cube buffer under one record or over 65,536 bytes */
 #define CHUDRAVIK_RECORD 14             /* a pair 11, or a leftover bit set, in a given record */
 #define CHUDRAVIK_NO_ROOM 15            /* no room for the next cube */
-#define CHUDRAVIK_NO_LAMPS 16           /* no lamps, so nothing that a run could judge */
+#define CHUDRAVIK_NO_LAMPS 16           /* no lamps, so nothing to judge */
 #define CHUDRAVIK_START_NOT_COVERED 17  /* the start lies inside none of the given cubes */
 #define CHUDRAVIK_NEXT_NOT_COVERED 18   /* the next state of a given cube lies inside none of them */
+#define CHUDRAVIK_NOT_A_CHAIN 19        /* the given cubes are not a closed chain */
 #define CHUDRAVIK_DEFINITION 20         /* a variable defined twice, or an own literal odd, below 2 or above 2M + 1 */
 #define CHUDRAVIK_UNDEFINED 21          /* a literal whose variable no line defines */
 #define CHUDRAVIK_LOOP 22               /* gates in a loop */
 
 /* Where several apply, the first in the order named at the call is given. A refusal answers zeros beside its number and
- * changes no buffer, save 15 (chudravik_run); 18 names a cube (chudravik_cover). */
+ * changes no buffer, save 15 (chudravik_chain); 18 names a cube (chudravik_cover). */
 
 /* ---- the calls ---- */
 
@@ -142,10 +143,14 @@ typedef struct {
 
 typedef struct {
     uint32_t number;
-    size_t cubes;   /* n: how many cubes are stored */
-    size_t back;    /* j: the last cube's next state lies inside cube j */
-    size_t settled; /* s: how many latches are settled */
-} chudravik_run_answer;
+    size_t cubes; /* n: how many cubes are stored */
+    size_t back;  /* j: the last cube's next state lies inside cube j */
+} chudravik_chain_answer;
+
+typedef struct {
+    uint32_t number;
+    size_t settled; /* s: how many latches are settled; 0 with a refusal */
+} chudravik_judge_answer;
 
 typedef struct {
     uint32_t number;
@@ -178,11 +183,13 @@ CHUDRAVIK_IS(place_of_variables, offsetof(chudravik_read_any_answer, variables),
 CHUDRAVIK_IS(size_of_write_answer, sizeof(chudravik_write_answer), 16);
 CHUDRAVIK_IS(place_of_write_number, offsetof(chudravik_write_answer, number), 0);
 CHUDRAVIK_IS(place_of_bytes, offsetof(chudravik_write_answer, bytes), 8);
-CHUDRAVIK_IS(size_of_run_answer, sizeof(chudravik_run_answer), 32);
-CHUDRAVIK_IS(place_of_run_number, offsetof(chudravik_run_answer, number), 0);
-CHUDRAVIK_IS(place_of_cubes, offsetof(chudravik_run_answer, cubes), 8);
-CHUDRAVIK_IS(place_of_back, offsetof(chudravik_run_answer, back), 16);
-CHUDRAVIK_IS(place_of_settled, offsetof(chudravik_run_answer, settled), 24);
+CHUDRAVIK_IS(size_of_chain_answer, sizeof(chudravik_chain_answer), 24);
+CHUDRAVIK_IS(place_of_chain_number, offsetof(chudravik_chain_answer, number), 0);
+CHUDRAVIK_IS(place_of_cubes, offsetof(chudravik_chain_answer, cubes), 8);
+CHUDRAVIK_IS(place_of_back, offsetof(chudravik_chain_answer, back), 16);
+CHUDRAVIK_IS(size_of_judge_answer, sizeof(chudravik_judge_answer), 16);
+CHUDRAVIK_IS(place_of_judge_number, offsetof(chudravik_judge_answer, number), 0);
+CHUDRAVIK_IS(place_of_settled, offsetof(chudravik_judge_answer, settled), 8);
 CHUDRAVIK_IS(size_of_cover_answer, sizeof(chudravik_cover_answer), 16);
 CHUDRAVIK_IS(place_of_cover_number, offsetof(chudravik_cover_answer, number), 0);
 CHUDRAVIK_IS(place_of_cube, offsetof(chudravik_cover_answer, cube), 8);
@@ -220,23 +227,37 @@ uint32_t chudravik_tick(chudravik_counts counts, const uint16_t *table, size_t t
                         size_t state_bytes, const uint8_t *switches, size_t switches_bytes, uint8_t *next,
                         size_t next_bytes, uint8_t *lamps, size_t lamps_bytes);
 
-/* The whole run from the resets, all switches unknown: stores cubes until the next one lies inside a stored one; every w
- * cubes the latches that have just changed are held unknown from then on (w = 0: never).
- * cubes: cube k starts at byte k x CHUDRAVIK_RECORD_BYTES(latches). verdict: for each lamp CHUDRAVIK_LOW (it can never
- * light), CHUDRAVIK_HIGH (it is always lit) or CHUDRAVIK_UNKNOWN (open). settled: for each latch the value that it keeps
- * from tick j on, else CHUDRAVIK_UNKNOWN.
- * A closed run (number 0) covers every execution: whatever the switches do, the state after t ticks lies in cube t, or
- * for t >= n in cube j + (t - j) mod (n - j). With w >= 1 and room for w x latches + 1 cubes a run closes within them.
- * Refusals: 3, 16, 10 for the table, 11, 12, 13, 10 for verdict and settled, 15. After 15 the answer has n = the room,
- * cubes holds that many cubes, back and settled are 0, and verdict and settled stay as they were.
- * Bytes after the stored cubes and after each record stay as they were. */
-chudravik_run_answer chudravik_run(chudravik_counts counts, const uint16_t *table, size_t table_words, size_t w,
-                                   uint8_t *cubes, size_t cubes_bytes, uint8_t *verdict, size_t verdict_bytes,
-                                   uint8_t *settled, size_t settled_bytes);
+/* A run is two calls: chudravik_chain, and chudravik_judge of what it made. Who changes lamps alone, or adds one, needs the
+ * second only.
+ *
+ * Follows the circuit from the resets, all switches unknown: stores cubes until the next one lies inside a stored one; every
+ * w cubes the latches that have just changed are held unknown from then on (w = 0: never).
+ * cubes: cube k starts at byte k x CHUDRAVIK_RECORD_BYTES(latches).
+ * With number 0 the chain is closed: n cubes, and the next state of the last lies inside cube j. chudravik_judge accepts it,
+ * with this table and with any that differs from it in its lamps alone. With w >= 1 and room for w x latches + 1 cubes a
+ * chain closes within them.
+ * Refusals: 3, 16, 10 for the table, 11, 12, 13, 15. After 15 the answer has n = the room, cubes holds that many cubes, and
+ * back is 0. Bytes after the stored cubes stay as they were. */
+chudravik_chain_answer chudravik_chain(chudravik_counts counts, const uint16_t *table, size_t table_words, size_t w,
+                                       uint8_t *cubes, size_t cubes_bytes);
+
+/* Judges a closed chain of cubes, wherever it comes from: n of them, cube k from byte k x CHUDRAVIK_RECORD_BYTES(latches) on,
+ * in a buffer of any length. It is one where j is below n, cube 0 is the resets, the next state of each cube but the last,
+ * all switches unknown, lies inside the cube that follows, and that of the last inside cube j.
+ * verdict: for each lamp CHUDRAVIK_LOW (it can never light), CHUDRAVIK_HIGH (it is always lit) or CHUDRAVIK_UNKNOWN (open).
+ * settled: for each latch the value that it keeps from tick j on, else CHUDRAVIK_UNKNOWN.
+ * An accepted chain (number 0) covers every execution: whatever the switches do, the state after t ticks lies in cube t, or
+ * for t >= n in cube j + (t - j) mod (n - j); and verdict and settled hold. Nothing of how the cubes were made is relied on.
+ * Refusals: 3, 16, 10 for the table, 11, 10 where n records do not fit into the buffer (any n), 14 for any of the n records,
+ * 19 (so for n = 0, and any j that is not below n), 10 for verdict and settled. Bytes beyond the n cubes are ignored, and
+ * those after each record stay as they were. */
+chudravik_judge_answer chudravik_judge(chudravik_counts counts, const uint16_t *table, size_t table_words,
+                                       const uint8_t *cubes, size_t cubes_bytes, size_t n, size_t j, uint8_t *verdict,
+                                       size_t verdict_bytes, uint8_t *settled, size_t settled_bytes);
 
 /* Judges cubes that were worked out elsewhere: n of them, in any order, cube k from byte k x CHUDRAVIK_RECORD_BYTES(latches)
  * on; a buffer of any length. They are accepted exactly where the start (the resets) lies inside one of them, and the next
- * state of each, all switches unknown, inside a single one of them. verdict: for each lamp as in a run, over all n cubes.
+ * state of each, all switches unknown, inside a single one of them. verdict: for each lamp as from chudravik_judge, over all n cubes.
  * An accepted cover (number 0) covers every execution: whatever the switches do, the state lies inside one of the cubes at
  * every tick, so CHUDRAVIK_LOW is dark at every tick and CHUDRAVIK_HIGH lit. Nothing of how the cubes were made is relied on.
  * Refusals: 3, 16, 10 for the table, 11, 10 where n records do not fit into the buffer (any n), 14 for any of the n records, 17,

@@ -1,5 +1,5 @@
 // The bench circuits (specification, 9): each text is read and run by the code, and its line shows what came of it.
-use cubes::RunAnswer;
+use circuit::Counts;
 use libc::STDOUT_FILENO;
 
 const T: [u8; 20] = *b"aag 1 0 1 1 0\n2 3\n2\n";
@@ -50,6 +50,52 @@ fn say_five(bytes: &[u8]) {
     say_byte(bytes, 4);
 }
 
+// What came of a text, its chain and its judgement: the number is that of the first call that refuses.
+struct RunAnswer {
+    number: u32,
+    cubes: usize,
+    back: usize,
+    settled: usize,
+}
+
+fn refused(number: u32) -> RunAnswer {
+    RunAnswer {
+        number,
+        cubes: 0,
+        back: 0,
+        settled: 0,
+    }
+}
+
+// The chain of a circuit, and the judgement of what it left; 15 has its count of cubes.
+fn chain_and_judge(
+    counts: Counts,
+    table: &[u16],
+    w: usize,
+    cubes: &mut [u8],
+    verdict: &mut [u8],
+    settled: &mut [u8],
+) -> RunAnswer {
+    let chain = chained::chain(counts, table, w, cubes);
+    let n = chain.cubes;
+    let j = chain.back;
+    if chain.number != 0 {
+        return RunAnswer {
+            number: chain.number,
+            cubes: n,
+            back: j,
+            settled: 0,
+        };
+    }
+    let judged = judged::judge(counts, table, cubes, n, j, verdict, settled);
+    RunAnswer {
+        number: judged.number,
+        cubes: n,
+        back: j,
+        settled: judged.settled,
+    }
+}
+
 // Reads the text and runs its circuit; a text that is refused answers the reader's number.
 fn read_and_run(
     text: &[u8],
@@ -61,15 +107,10 @@ fn read_and_run(
     let mut table = [0u16; 16];
     let read = reader::read(text, &mut table);
     if read.number != 0 {
-        return RunAnswer {
-            number: read.number,
-            cubes: 0,
-            back: 0,
-            settled: 0,
-        };
+        return refused(read.number);
     }
     let counts = read.counts;
-    run::run(counts, &table, w, cubes, verdict, settled)
+    chain_and_judge(counts, &table, w, cubes, verdict, settled)
 }
 
 // The answer, the first five bytes of the cube buffer, and the first of the verdict and of the settled record.

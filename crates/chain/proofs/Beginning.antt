@@ -11,8 +11,8 @@ use Rattle.circuit.specs.RulesInCode.{Legal}
 use Rattle.chain.specs.declared.Chain.{Chain}
 use Rattle.cubes.specs.Run.{cubeAt}
 use Rattle.stored.specs.CubesInCode.{startFields}
-use Rattle.cubes.specs.Call.{roomIn}
-use Rattle.chain.specs.ChainInCode.{Chained, Followable}
+use Rattle.cubes.specs.Chain.{roomIn}
+use Rattle.chain.specs.ChainInCode.{ChainMade, Followable}
 use Rattle.stored.proofs.Keeping.{behind-one}
 use Rattle.cubes.proofs.Merging.{over-over, length-over}
 use Rattle.stored.proofs.Starting.{start-sized}
@@ -43,7 +43,7 @@ module _ (c : Counts) (words : List ℕ) (w : ℕ) (buffer cubes : List ℕ) (on
     begun = begun ∙ sym (ap (over (packCube (startFields words (c .latches)))) begun ∙ over-over _ _ buffer (omega arith));
   }
 
-  pub chained-from : (r : Chain) (cubes′ : List ℕ) → Chained c words w cubes r cubes′ → Chained c words w buffer r cubes′
+  pub chained-from : (r : Chain) (cubes′ : List ℕ) → ChainMade c words w cubes r cubes′ → ChainMade c words w buffer r cubes′
   chained-from r cubes′ h = record {
     closes = rw same-room at (h .closes);
     counts = rw same-room at (h .counts);

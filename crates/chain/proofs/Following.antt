@@ -13,8 +13,8 @@ use Rattle.circuit.specs.Table.{circuitOf}
 use Rattle.chain.specs.declared.Progress.{Progress}
 use Rattle.cubes.specs.Run.{due, nextCube, stops, full, run}
 use Rattle.stored.specs.CubesInCode.{keptBytes, coversFrom, SwitchesX}
-use Rattle.cubes.specs.Call.{roomIn, storedCubes, backTo}
-use Rattle.chain.specs.ChainInCode.{Advanced, Chained, Followable}
+use Rattle.cubes.specs.Chain.{roomIn, storedCubes, backTo}
+use Rattle.chain.specs.ChainInCode.{Advanced, ChainMade, Followable}
 use Rattle.cubes.specs.OutcomesInCode.{hasStopped}
 use Rattle.stored.proofs.Keeping.{length-kept}
 use Rattle.chain.proofs.Chaining.{Going, Reached, same-length, all-fits, last-at, last-record, reached-b, closes-at, goes-on, going-first}
@@ -74,7 +74,7 @@ module _ (c : Counts) (words : List ℕ) (w len room : ℕ) (buffer : List ℕ) 
       sought′ = rw (f .size) at sought
 
       -- the run is closed
-      pub closed-now : back < count → Chained c words w buffer (record { stopped = true; count = count; back = back }) cubes
+      pub closed-now : back < count → ChainMade c words w buffer (record { stopped = true; count = count; back = back }) cubes
       unfolding storedCubes hasStopped backTo
       closed-now h =
           let e : run (circuitOf c words) w (roomIn c buffer) ≡ stops count back =
@@ -85,7 +85,7 @@ module _ (c : Counts) (words : List ℕ) (w len room : ℕ) (buffer : List ℕ) 
       open-yet h = goes-on c words w buffer g b′ r back sought′ h
 
       -- no room is left
-      pub full-now : count ≤ back → count ≡ room → Chained c words w buffer (record { stopped = false; count = count; back = 0 }) cubes
+      pub full-now : count ≤ back → count ≡ room → ChainMade c words w buffer (record { stopped = false; count = count; back = 0 }) cubes
       unfolding storedCubes hasStopped backTo
       full-now h e =
           let room= : count ≡ roomIn c buffer = e ∙ f .has-room in

@@ -15,7 +15,7 @@ use Rattle.chain.specs.declared.Chain.{Chain}
 use Rattle.cubes.specs.Run.{cubeAt, run}
 use Rattle.cubes.specs.Buffer.{cubeBytes, packCube, packCubes}
 use Rattle.cubes.specs.HeldInCode.{differingByte}
-use Rattle.cubes.specs.Call.{roomIn, storedCubes, backTo}
+use Rattle.cubes.specs.Chain.{roomIn, storedCubes, backTo}
 use Rattle.stored.specs.CubesInCode.{startFields, keptBytes}
 use Rattle.cubes.specs.OutcomesInCode.{hasStopped}
 
@@ -35,7 +35,7 @@ pub record Advanced (d : Bool) (len : ℕ) (before : Progress) (cubes b : List �
   pub stores : cubes′ ≡ paste cubes (before .count * len) (keptBytes len (after .held) b) len
 
 -- a chain that is made in a buffer: what it answers, and the cubes in front of what stood there
-pub record Chained (c : Counts) (words : List ℕ) (w : ℕ) (buffer : List ℕ) (r : Chain) (cubes : List ℕ) : Type 0 where
+pub record ChainMade (c : Counts) (words : List ℕ) (w : ℕ) (buffer : List ℕ) (r : Chain) (cubes : List ℕ) : Type 0 where
   pub closes : r .stopped ≡ hasStopped (run (circuitOf c words) w (roomIn c buffer))
   pub counts : r .count ≡ storedCubes (roomIn c buffer) (run (circuitOf c words) w (roomIn c buffer))
   pub goes-back : r .back ≡ backTo (run (circuitOf c words) w (roomIn c buffer))

@@ -12,7 +12,7 @@ ghost use Rattle.cubes.specs.Buffer.{cubeBytes};
 ghost use Rattle.cubes.specs.BufferInCode.{longestCube};
 ghost use Rattle.cubes.specs.HeldInCode.{differingByte};
 ghost use Rattle.three.specs.Lists.{first};
-ghost use Rattle.chain.specs.ChainInCode.{heldAfter, widenedBytes, Advanced, Followable, Chained};
+ghost use Rattle.chain.specs.ChainInCode.{heldAfter, widenedBytes, Advanced, Followable, ChainMade};
 
 // If w is not 0 and divides k.
 fn due(w: usize, k: usize) -> bool
@@ -108,7 +108,7 @@ fn follow(
     cubes: &mut [u8],
 ) -> Chain
     requires { ⌜ Followable counts (now table) len room (now cubes) ⌝ }
-    ensures { λ r. ⌜ Chained counts (now (table .entry)) w (now (cubes .entry)) r (now (cubes .exit)) ⌝ }
+    ensures { λ r. ⌜ ChainMade counts (now (table .entry)) w (now (cubes .entry)) r (now (cubes .exit)) ⌝ }
 {
     let mut values = pass::fresh_values();
     let mut b = [0u8; LONGEST_CUBE];
@@ -150,7 +150,7 @@ fn follow(
 // The cubes of a run, its n and its j.
 pub fn make_chain(counts: Counts, table: &[u16], w: usize, cubes: &mut [u8]) -> Chain
     requires { ⌜ Legal counts (now table) × (cubeBytes (counts .latches) ≤ length (now cubes)) × (length (now cubes) ≤ 65536) ⌝ }
-    ensures { λ r. ⌜ Chained counts (now (table .entry)) w (now (cubes .entry)) r (now (cubes .exit)) ⌝ }
+    ensures { λ r. ⌜ ChainMade counts (now (table .entry)) w (now (cubes .entry)) r (now (cubes .exit)) ⌝ }
 {
     let len = stored::cube_bytes(counts.latches);
     stored::store_start(table, counts.latches, cubes);

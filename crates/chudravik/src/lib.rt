@@ -1,15 +1,17 @@
 // The C interface (include/chudravik.h): each public call under its C name, with the same contract, and nothing else.
 use anyorder::ReadAnyAnswer;
 use circuit::Counts;
-use cubes::RunAnswer;
+use cubes::ChainAnswer;
+use cubes::JudgeAnswer;
 use reader::ReadAnswer;
 use sent::CoverAnswer;
 use writer::WriteAnswer;
 ghost use Rattle.tick.specs.Tick.{Ticked};
 ghost use Rattle.text.specs.Calls.{Reading, Writing};
 ghost use Rattle.drawn.specs.Lines.{ReadingAny};
-ghost use Rattle.cubes.specs.Call.{Runs};
-ghost use Rattle.cubes.specs.Promise.{Promises};
+ghost use Rattle.cubes.specs.Chain.{Chained};
+ghost use Rattle.cubes.specs.Judge.{Judged};
+ghost use Rattle.cubes.specs.Promise.{Closing, Promises};
 ghost use Rattle.sent.specs.Call.{Sent};
 ghost use Rattle.sent.specs.Promise.{Keeps};
 
@@ -53,17 +55,30 @@ pub extern "C" fn chudravik_tick(
 }
 
 #[no_mangle]
-pub extern "C" fn chudravik_run(
+pub extern "C" fn chudravik_chain(
     counts: Counts,
     table: &[u16],
     w: usize,
     cubes: &mut [u8],
+) -> ChainAnswer
+    ensures { λ r. ⌜ Chained (record { counts = counts; table = now (table .entry); w = w; cubes = now (cubes .entry) }) r (now (cubes .exit)) × Closing (record { counts = counts; table = now (table .entry); w = w; cubes = now (cubes .entry) }) r ⌝ }
+{
+    chained::chain(counts, table, w, cubes)
+}
+
+#[no_mangle]
+pub extern "C" fn chudravik_judge(
+    counts: Counts,
+    table: &[u16],
+    cubes: &[u8],
+    n: usize,
+    j: usize,
     verdict: &mut [u8],
     settled: &mut [u8],
-) -> RunAnswer
-    ensures { λ r. ⌜ Runs (record { counts = counts; table = now (table .entry); w = w; cubes = now (cubes .entry); verdict = now (verdict .entry); settled = now (settled .entry) }) r (now (cubes .exit)) (now (verdict .exit)) (now (settled .exit)) × Promises (record { counts = counts; table = now (table .entry); w = w; cubes = now (cubes .entry); verdict = now (verdict .entry); settled = now (settled .entry) }) r (now (cubes .exit)) (now (verdict .exit)) (now (settled .exit)) ⌝ }
+) -> JudgeAnswer
+    ensures { λ r. ⌜ Judged (record { counts = counts; table = now (table .entry); cubes = now (cubes .entry); n = n; j = j; verdict = now (verdict .entry); settled = now (settled .entry) }) r (now (verdict .exit)) (now (settled .exit)) × Promises (record { counts = counts; table = now (table .entry); cubes = now (cubes .entry); n = n; j = j; verdict = now (verdict .entry); settled = now (settled .entry) }) (now (verdict .exit)) (now (settled .exit)) r ⌝ }
 {
-    run::run(counts, table, w, cubes, verdict, settled)
+    judged::judge(counts, table, cubes, n, j, verdict, settled)
 }
 
 #[no_mangle]

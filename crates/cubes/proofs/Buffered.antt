@@ -12,7 +12,7 @@ use Rattle.circuit.specs.Circuit.{Circuit, lamps}
 use Rattle.circuit.specs.Table.{circuitOf}
 use Rattle.cubes.specs.Run.{nextCube, lampsIn, cubeAt, Ending, stops, full, run, merge, verdict, settled, mergeFrom}
 use Rattle.cubes.specs.Buffer.{cubeIn, packCubes}
-use Rattle.cubes.specs.Call.{storedCubes, backTo, outcomeNumber}
+use Rattle.cubes.specs.Chain.{storedCubes, backTo, outcomeNumber}
 use Rattle.cubes.specs.OutcomesInCode.{hasStopped}
 use Rattle.cubes.proofs.Steps.{found, Ran, stays, closes, ran}
 use Rattle.cubes.proofs.Storing.{stored-cube}
@@ -97,16 +97,17 @@ unfolding verdict
 verdict-sized c words cubes n =
     mergeFrom-sized _ _ (c .lamps) (λ k. lamps-counted c words _) 0 (length-replicate (length (circuitOf c words .lamps)) _ ∙ literals-counted c words) n
 
+pub settled-sized : (c : Counts) (words : List ℕ) (cubes : ℕ → Cube) → ((k : ℕ) → length (cubes k) ≡ c .latches) → (n j : ℕ) → length (settled (circuitOf c words) cubes n j) ≡ c .latches
+unfolding settled
+settled-sized c words cubes sized n j =
+    mergeFrom-sized _ _ (c .latches) sized j (length-replicate (length (circuitOf c words .latches)) _ ∙ latches-counted c words) (n - j)
+
 module _ (c : Counts) (words : List ℕ) (w : ℕ) where
   abbrev circuit : Circuit
   circuit = circuitOf c words
 
   pub cubes-sized : (k : ℕ) → length (cubeAt circuit w k) ≡ c .latches
   cubes-sized k = cube-sized circuit w k ∙ latches-counted c words
-
-  pub settled-sized : (n j : ℕ) → length (settled circuit (cubeAt circuit w) n j) ≡ c .latches
-  unfolding settled
-  settled-sized n j = mergeFrom-sized _ _ (c .latches) cubes-sized j (length-replicate (length (circuit .latches)) _ ∙ latches-counted c words) (n - j)
 
   module _ (buffer : List ℕ) (n : ℕ) (cubes : List ℕ) (fills : cubes ≡ over (packCubes (cubeAt circuit w) n) buffer) where
     pub cube-in : (k : ℕ) → k < n → cubeIn (c .latches) cubes k ≡ cubeAt circuit w k

@@ -1,7 +1,7 @@
 -- The tests of given cubes: 10 and 14, and what holds of cubes that pass them. Assumes nothing.
-use mathlib.Core.Path.{_≡_, refl}
+use mathlib.Core.Path.{_≡_, refl, ap, _∙_}
 use mathlib.Core.Bool.{true, false}
-use mathlib.Core.List.{List}
+use mathlib.Core.List.{List, _++_, append-assoc}
 use Prim.Native.Nat.{ℕ, _*_, _/_, _<_, _≤_}
 use native.Mathlib.Nat.{mul-le-mul-right, div-mul-le-self}
 use native.Mathlib.Omega.{arith}
@@ -10,12 +10,16 @@ use lib.ListN.{length, length-drop}
 use Rattle.three.specs.Lists.{every}
 use Rattle.three.proofs.Lists.{every-at}
 use Rattle.circuit.specs.declared.Counts.{Counts}
-use Rattle.circuit.specs.Refusal.{refusal}
-use Rattle.circuit.proofs.Refusals.{Numbered, stops, past, none, passes}
+use Rattle.circuit.specs.Refusal.{Test, refusal}
+use Rattle.circuit.specs.Table.{boardTests}
+use Rattle.circuit.specs.RulesInCode.{Legal}
+use Rattle.circuit.proofs.Refusals.{Numbered, stops, past, none, passes, none-append, refuses-whole, none-past}
+use Rattle.circuit.proofs.Legality.{board-numbered, board-legal}
 use Rattle.cubes.specs.Buffer.{cubeBytes, soundIn}
 use Rattle.cubes.specs.BufferInCode.{Cubes}
-use Rattle.cubes.specs.Call.{roomIn}
+use Rattle.cubes.specs.Chain.{roomIn}
 use Rattle.cubes.specs.Given.{cubeTests}
+use Rattle.cubes.specs.GivenInCode.{givenTests}
 use Rattle.cubes.proofs.StoredCube.{sound-cube}
 use Rattle.cubes.proofs.Storing.{cube-place}
 
@@ -56,3 +60,26 @@ module _ (c : Counts) (cubes : List ℕ) (n : ℕ) where
     fits = cubes-fit few;
     cube = λ k h. sound-cube _ _ (omega (arith, cube-place n (cubeBytes (c .latches)) k (length cubes) h (cubes-fit few), length-drop (k * cubeBytes (c .latches)) cubes)) (every-at n (soundIn (c .latches) cubes) good k h);
   }
+
+-- ---- behind the table's tests, and before those that look into the cubes
+
+module _ (c : Counts) (table cubes : List ℕ) (n : ℕ) where
+  pub given-refuses : (ts : List Test) (k : ℕ) → k ≡ refusal (givenTests c table cubes n) → (k ≡ 0 → ⊥) → k ≡ refusal (boardTests c table ++ (cubeTests c cubes n ++ ts))
+  given-refuses ts k e h = refuses-whole (givenTests c table cubes n) ts k e h ∙ ap refusal (append-assoc (boardTests c table) (cubeTests c cubes n) ts)
+
+  pub given-passes : 0 ≡ refusal (givenTests c table cubes n) → Legal c table × Cubes (c .latches) (cubeBytes (c .latches)) n cubes
+  given-passes ok =
+      let p = none-append (boardTests c table) (cubeTests c cubes n) (board-numbered c table) ok in
+      let are = cubes-given c cubes n (p .1) in
+      (board-legal c table (p .0), cubes-stand c cubes n (are .0) (are .1))
+
+  -- where they pass the tests behind them decide
+  pub past-given : (ts : List Test) → 0 ≡ refusal (givenTests c table cubes n) → {k : ℕ} → k ≡ refusal ts → k ≡ refusal (boardTests c table ++ (cubeTests c cubes n ++ ts))
+  past-given ts ok e =
+      let p = none-append (boardTests c table) (cubeTests c cubes n) (board-numbered c table) ok in
+      none-past (boardTests c table) _ (board-numbered c table) (p .0) (none-past (cubeTests c cubes n) ts (cubes-numbered c cubes n) (p .1) e)
+
+  pub behind-given : (ts : List Test) → 0 ≡ refusal (boardTests c table ++ (cubeTests c cubes n ++ ts)) → 0 ≡ refusal ts
+  behind-given ts e =
+      let p = none-append (boardTests c table) _ (board-numbered c table) e in
+      none-append (cubeTests c cubes n) ts (cubes-numbered c cubes n) (p .1) .1

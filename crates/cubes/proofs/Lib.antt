@@ -14,5 +14,9 @@ pub mod Storing
 pub mod Given
 pub mod Merging
 pub mod Buffered
+pub mod Chains
+pub mod Chaining
+pub mod Judging
 pub mod Promising
+pub mod Own
 pub mod Determined

@@ -1,16 +1,16 @@
--- Cubes that a caller gives, n of them (specification, 5.11): sound records; no execution leaves them. Assumes nothing.
-use mathlib.Core.Bool.{Bool, true, false, not}
+-- Cubes that a caller gives, n of them (specification, 5.11 and 5.12): sound records; no execution leaves them; a closed chain. Assumes nothing.
+use mathlib.Core.Bool.{Bool, true, false, not, cond, _&&_}
 use mathlib.Core.List.{List, [], _∷_}
-use Prim.Native.Nat.{ℕ}
-use lib.Dec.{leb}
+use Prim.Native.Nat.{ℕ, suc}
+use lib.Dec.{leb, ltb}
 use Rattle.three.specs.Lists.{every, first}
-use Rattle.three.specs.Cube.{Cube}
+use Rattle.three.specs.Cube.{Cube, subsumes}
 use Rattle.circuit.specs.declared.Counts.{Counts}
 use Rattle.circuit.specs.Circuit.{Circuit}
 use Rattle.circuit.specs.Refusal.{Test, _or_}
 use Rattle.cubes.specs.Run.{nextCube, start, at, nowhere, search}
 use Rattle.cubes.specs.Buffer.{soundIn}
-use Rattle.cubes.specs.Call.{roomIn}
+use Rattle.cubes.specs.Chain.{roomIn}
 
 -- 10 for n cubes, 14; bytes beyond the n cubes are not looked at
 unfoldable pub cubeTests : Counts → List ℕ → ℕ → List Test
@@ -32,3 +32,20 @@ module _ (c : Circuit) (cubes : ℕ → Cube) (n : ℕ) where
   -- the number of the first cube whose next state does not
   unfoldable pub firstUncovered : ℕ
   firstUncovered = first n (λ k. not (nextCovered k))
+
+-- two cubes are the same: each lies inside the other
+unfoldable pub same : Cube → Cube → Bool
+same a b = subsumes a b && subsumes b a
+
+-- the number that comes after k in a chain of n cubes: the following one, and j after the last
+unfoldable pub onward : ℕ → ℕ → ℕ → ℕ
+onward n j k = cond (ltb (suc k) n) (suc k) j
+
+module _ (c : Circuit) (cubes : ℕ → Cube) (n j : ℕ) where
+  -- the next state of cube number k lies inside the cube that comes after it
+  unfoldable pub goesOn : ℕ → Bool
+  goesOn k = subsumes (cubes (onward n j k)) (nextCube c (cubes k))
+
+  -- 19: j is below n, cube 0 is the resets, and each next state lies inside the cube that comes after
+  unfoldable pub isChain : Bool
+  isChain = ltb j n && (same (cubes 0) (start c) && every n goesOn)

@@ -1,9 +1,12 @@
 pub mod Run
 pub mod Execution
 pub mod Buffer
-pub mod Call
+pub mod Chain
 pub mod Given
+pub mod Judge
 pub mod Promise
 pub mod OutcomesInCode
 pub mod HeldInCode
 pub mod BufferInCode
+pub mod GivenInCode
+pub mod Examples

@@ -1,3 +1,4 @@
 pub mod Lamps
 pub mod Latches
 pub mod Judging
+pub mod Passing

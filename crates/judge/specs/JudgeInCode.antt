@@ -3,14 +3,11 @@ use mathlib.Core.Path.{_≡_}
 use mathlib.Core.List.{List}
 use Prim.Native.Nat.{ℕ, _*_, _-_, _<_, _≤_}
 use lib.ListN.{length, drop, replicate}
-use Rattle.three.specs.Lists.{over}
 use Rattle.three.specs.Value.{unknown}
-use Rattle.three.specs.Cube.{Cube, knownFields}
-use Rattle.three.specs.Record.{pack}
+use Rattle.three.specs.Cube.{Cube}
 use Rattle.circuit.specs.declared.Counts.{Counts}
-use Rattle.circuit.specs.Table.{circuitOf}
 use Rattle.circuit.specs.RulesInCode.{Legal}
-use Rattle.cubes.specs.Run.{mergeFrom, verdict, settled}
+use Rattle.cubes.specs.Run.{mergeFrom}
 use Rattle.cubes.specs.Buffer.{cubeBytes, cubeIn}
 use Rattle.cubes.specs.BufferInCode.{IsCube}
 
@@ -29,12 +26,6 @@ pub record Settleable (latches len n j : ℕ) (cubes : List ℕ) : Type 0 where
   pub below : j < n
   pub fits : n * len ≤ length cubes
   pub cube : (k : ℕ) → k < n → IsCube latches (drop (k * len) cubes)
-
--- what the judge leaves and answers
-pub record Judgement (c : Counts) (words cubes : List ℕ) (n j : ℕ) (verdict₀ settled₀ : List ℕ) (s : ℕ) (verdict₁ settled₁ : List ℕ) : Type 0 where
-  pub lamps : verdict₁ ≡ over (pack (verdict (circuitOf c words) (cubeIn (c .latches) cubes) n)) verdict₀
-  pub latches : settled₁ ≡ over (pack (settled (circuitOf c words) (cubeIn (c .latches) cubes) n j)) settled₀
-  pub count : s ≡ knownFields (settled (circuitOf c words) (cubeIn (c .latches) cubes) n j)
 
 -- the settled record by the count of latches alone
 unfoldable pub settledFrom : ℕ → List ℕ → ℕ → ℕ → Cube

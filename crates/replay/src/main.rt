@@ -5,7 +5,8 @@
 //   any TABLEWORDS LISTWORDS BYTES TEXT                        a table and a list of so many words; the text as above
 //   write I L O A WORDS w.. BYTES                              the table; a text buffer of BYTES bytes
 //   tick I L O A WORDS w.. STATE b.. SWITCHES b.. NEXT LAMPS   the table, two records; the lengths of the results
-//   run I L O A WORDS w.. W CUBES VERDICT SETTLED              the table; the interval; the lengths of the results
+//   chain I L O A WORDS w.. W CUBES                            the table; the interval; the length of the cubes' buffer
+//   judge I L O A WORDS w.. CUBES b.. N J VERDICT SETTLED      the table, the cubes, n, j; the lengths of the results
 //   cover I L O A WORDS w.. CUBES b.. N VERDICT                the table, the cubes, their number; the result's length
 //
 // In TEXT `/` stands for byte 10, and `\hh` for any byte; what goes beyond BYTES is cut. A list, w.. or b.., has its
@@ -290,82 +291,124 @@ fn tick_vector(line: &[u8]) {
     );
 }
 
-// ---- run
+// ---- chain
 
-fn show_run(
+fn show_chain(counts: Counts, table: &[u16], w: usize, cubes: &mut [u8]) {
+    let answer = chained::chain(counts, table, w, cubes);
+    say_number(b"chain number ", answer.number as usize);
+    say_number(b" n ", answer.cubes);
+    say_number(b" j ", answer.back);
+    say_bytes(b"; cubes", cubes);
+    say(b"\n");
+}
+
+fn chain_given(counts: Counts, table: &[u16], words: usize, w: usize, lent: usize) {
+    let mut cubes = [UNTOUCHED; MOST_BYTES];
+    let given = words_within(words, table);
+    let cubes_bytes = bytes_within(lent, &cubes);
+    if given < words || cubes_bytes < lent {
+        too_large();
+        return;
+    }
+    show_chain(counts, &table[..given], w, &mut cubes[..cubes_bytes]);
+}
+
+fn chain_vector(line: &[u8]) {
+    let mut table = [0u16; MOST_WORDS];
+    let circuit = circuit_at(line, 6, &mut table);
+    let w = vector::next(line, circuit.behind);
+    let cubes = vector::next(line, w);
+    if !vector::ends(line, cubes) {
+        not_a_vector();
+        return;
+    }
+    let counts = circuit.counts;
+    chain_given(counts, &table, circuit.words, w.value, cubes.value);
+}
+
+// ---- judge
+
+fn show_judge(
     counts: Counts,
     table: &[u16],
-    w: usize,
-    cubes: &mut [u8],
+    cubes: &[u8],
+    n: usize,
+    j: usize,
     verdict: &mut [u8],
     settled: &mut [u8],
 ) {
-    let answer = run::run(counts, table, w, cubes, verdict, settled);
-    say_number(b"run number ", answer.number as usize);
-    say_number(b" n ", answer.cubes);
-    say_number(b" j ", answer.back);
+    let answer = judged::judge(counts, table, cubes, n, j, verdict, settled);
+    say_number(b"judge number ", answer.number as usize);
     say_number(b" s ", answer.settled);
-    say_bytes(b"; cubes", cubes);
     say_bytes(b"; verdict", verdict);
     say_bytes(b"; settled", settled);
     say(b"\n");
 }
 
-// What a run is lent, by its length.
-struct RunLent {
+// What the judge is given and lent, by its length, and the numbers.
+struct JudgeGiven {
+    words: usize,
     cubes: usize,
+    n: usize,
+    j: usize,
     verdict: usize,
     settled: usize,
 }
 
-fn run_lent(counts: Counts, table: &[u16], w: usize, lent: RunLent) {
-    let mut cubes = [UNTOUCHED; MOST_BYTES];
+fn judge_lent(counts: Counts, given: JudgeGiven, table: &[u16], cubes: &[u8]) {
     let mut verdict = [UNTOUCHED; MOST_BYTES];
     let mut settled = [UNTOUCHED; MOST_BYTES];
-    let cubes_bytes = bytes_within(lent.cubes, &cubes);
-    let verdict_bytes = bytes_within(lent.verdict, &verdict);
-    let settled_bytes = bytes_within(lent.settled, &settled);
-    if cubes_bytes < lent.cubes || verdict_bytes < lent.verdict || settled_bytes < lent.settled {
+    let verdict_bytes = bytes_within(given.verdict, &verdict);
+    let settled_bytes = bytes_within(given.settled, &settled);
+    if verdict_bytes < given.verdict || settled_bytes < given.settled {
         too_large();
         return;
     }
-    show_run(
+    show_judge(
         counts,
         table,
-        w,
-        &mut cubes[..cubes_bytes],
+        cubes,
+        given.n,
+        given.j,
         &mut verdict[..verdict_bytes],
         &mut settled[..settled_bytes],
     );
 }
 
-fn run_given(counts: Counts, table: &[u16], words: usize, w: usize, lent: RunLent) {
-    let given = words_within(words, table);
-    if given < words {
+fn judge_given(counts: Counts, given: JudgeGiven, table: &[u16], cubes: &[u8]) {
+    let words = words_within(given.words, table);
+    let cubes_bytes = bytes_within(given.cubes, cubes);
+    if words < given.words || cubes_bytes < given.cubes {
         too_large();
         return;
     }
-    run_lent(counts, &table[..given], w, lent);
+    judge_lent(counts, given, &table[..words], &cubes[..cubes_bytes]);
 }
 
-fn run_vector(line: &[u8]) {
+fn judge_vector(line: &[u8]) {
     let mut table = [0u16; MOST_WORDS];
-    let circuit = circuit_at(line, 4, &mut table);
-    let w = vector::next(line, circuit.behind);
-    let cubes = vector::next(line, w);
-    let verdict = vector::next(line, cubes);
+    let mut cubes = [0u8; MOST_BYTES];
+    let circuit = circuit_at(line, 6, &mut table);
+    let cubes_bytes = vector::next(line, circuit.behind);
+    let behind_cubes = vector::bytes(line, cubes_bytes, &mut cubes);
+    let n = vector::next(line, behind_cubes);
+    let j = vector::next(line, n);
+    let verdict = vector::next(line, j);
     let settled = vector::next(line, verdict);
     if !vector::ends(line, settled) {
         not_a_vector();
         return;
     }
-    let lent = RunLent {
-        cubes: cubes.value,
+    let given = JudgeGiven {
+        words: circuit.words,
+        cubes: cubes_bytes.value,
+        n: n.value,
+        j: j.value,
         verdict: verdict.value,
         settled: settled.value,
     };
     let counts = circuit.counts;
-    run_given(counts, &table, circuit.words, w.value, lent);
+    judge_given(counts, given, &table, &cubes);
 }
 
 // ---- cover
@@ -467,8 +510,10 @@ fn answer(line: &[u8]) {
         write_vector(line);
     } else if vector::opens(line, b"tick ") {
         tick_vector(line);
-    } else if vector::opens(line, b"run ") {
-        run_vector(line);
+    } else if vector::opens(line, b"chain ") {
+        chain_vector(line);
+    } else if vector::opens(line, b"judge ") {
+        judge_vector(line);
     } else if vector::opens(line, b"cover ") {
         cover_vector(line);
     } else {

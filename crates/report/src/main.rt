@@ -1,18 +1,20 @@
 // The report program (specification, 6): a circuit's text on standard input, the report on standard output.
 use circuit::Counts;
-use cubes::RunAnswer;
 use libc::STDERR_FILENO;
 use libc::STDIN_FILENO;
 use libc::STDOUT_FILENO;
 use rows::Row;
+ghost use mathlib.Core.Path.{_≡_};
 ghost use mathlib.Core.List.{_++_};
 ghost use Prim.Native.Nat.{_+_, _*_, _≤_};
 ghost use lib.ListN.{length};
 ghost use Rattle.three.specs.Record.{unpack};
+ghost use Rattle.circuit.specs.Refusal.{refusal};
+ghost use Rattle.circuit.specs.Table.{circuitTests};
 ghost use Rattle.putting.specs.PutInCode.{Put};
 ghost use Rattle.rows.specs.declared.Row.{Row};
 ghost use Rattle.rows.specs.Rows.{rows};
-ghost use Rattle.report.specs.Report.{closing, refusing, Reported};
+ghost use Rattle.report.specs.Report.{closing, refusing, runReport, Reported};
 
 // Takes w = 16 and a cube buffer of 65,536 bytes.
 const INTERVAL: usize = 16;
@@ -54,11 +56,18 @@ fn put_refusal(out: &mut [u8], number: u32) -> usize
     rows::put_bytes(out, end, b"\n")
 }
 
+// What the two calls answer where they refuse nothing.
+struct Closed {
+    cubes: usize,
+    back: usize,
+    settled: usize,
+}
+
 // Closure; then each lamp; then each latch.
 fn put_closed(
     out: &mut [u8],
     counts: Counts,
-    answer: RunAnswer,
+    answer: Closed,
     verdict: &[u8],
     settled: &[u8],
 ) -> usize
@@ -68,6 +77,29 @@ fn put_closed(
     let lamps = put_closing(out, answer.cubes, answer.back, answer.settled);
     let latches = rows::put_rows(out, lamps, Row::Lamp, verdict, counts.lamps);
     rows::put_rows(out, latches, Row::Latch, settled, counts.latches)
+}
+
+// The report on a circuit that was read. What the chain leaves is never refused by the judge.
+fn report_run(counts: Counts, table: &[u16], out: &mut [u8; REPORT_BYTES]) -> usize
+    requires { ⌜ 0 ≡ refusal (circuitTests counts (now table)) ⌝ }
+    ensures { λ r. ⌜ Put (now (out .entry)) 0 (runReport (record { counts = counts; words = now (table .entry) })) (now (out .exit)) r × (r ≤ length (now (out .entry))) ⌝ }
+{
+    let mut cubes = [0u8; CUBE_BYTES];
+    let chain = chained::chain(counts, table, INTERVAL, &mut cubes);
+    if chain.number != 0 {
+        return put_refusal(out, chain.number);
+    }
+    let mut verdict = [0u8; 16];
+    let mut settled = [0u8; 128];
+    let n = chain.cubes;
+    let j = chain.back;
+    let judged = judged::judge(counts, table, &cubes, n, j, &mut verdict, &mut settled);
+    let answer = Closed {
+        cubes: n,
+        back: j,
+        settled: judged.settled,
+    };
+    put_closed(out, counts, answer, &verdict, &settled)
 }
 
 // The report on a text, at the front of the buffer; how many bytes it has. Nothing is relied on: any text may be handed in.
@@ -80,21 +112,7 @@ fn report(text: &[u8], out: &mut [u8; REPORT_BYTES]) -> usize
         return put_refusal(out, read.number);
     }
     let counts = read.counts;
-    let mut cubes = [0u8; CUBE_BYTES];
-    let mut verdict = [0u8; 16];
-    let mut settled = [0u8; 128];
-    let answer = run::run(
-        counts,
-        &table,
-        INTERVAL,
-        &mut cubes,
-        &mut verdict,
-        &mut settled,
-    );
-    if answer.number != 0 {
-        return put_refusal(out, answer.number);
-    }
-    put_closed(out, counts, answer, &verdict, &settled)
+    report_run(counts, &table, out)
 }
 
 // What was taken of standard input; a read that failed is no end of the text.

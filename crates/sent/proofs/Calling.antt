@@ -21,7 +21,8 @@ use Rattle.cubes.specs.Given.{cubeTests, covered, nextCovered, firstUncovered}
 use Rattle.cubes.proofs.Buffered.{verdict-sized}
 use Rattle.cubes.proofs.Covering.{uncovered-none, uncovered-fails, uncovered-passes}
 use Rattle.sent.specs.Call.{SentGiven, circuitIn, cubesIn, sentTests, verdictFields, Sent}
-use Rattle.sent.specs.SentInCode.{givenTests, Walked}
+use Rattle.cubes.specs.GivenInCode.{givenTests}
+use Rattle.sent.specs.SentInCode.{Walked}
 use Rattle.sent.proofs.Refusing.{given-refuses, start-outside, next-outside, verdict-short, sent-passes}
 
 -- ---- 18 is no number of the tests before it

@@ -13,8 +13,8 @@ use Rattle.circuit.specs.Refusal.{refusal, allHold, leftBy}
 use Rattle.circuit.specs.Table.{ceilingTests, several, kinds, width, rowTests, tableTests, circuitOf, wordTests, boardTests, lampTests, literalTests, operandTests}
 use Rattle.cubes.specs.Run.{switchesUnknown, nextCube, lampsIn, startField, resets, start, search, merge, mergeFrom, verdict}
 use Rattle.cubes.specs.Buffer.{cubeBytes, cubeOf, soundCube, cubeIn, soundIn}
-use Rattle.cubes.specs.Call.{roomIn}
 use Rattle.cubes.specs.Given.{cubeTests, covered, nextCovered, coverTests, firstUncovered}
+use Rattle.cubes.specs.Chain.{roomIn}
 use Rattle.sent.specs.Call.{SentGiven, circuitIn, cubesIn, verdictTests, sentTests, verdictFields}
 
 -- S, with these cubes

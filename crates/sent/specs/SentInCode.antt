@@ -1,23 +1,18 @@
 -- What the functions of a sent cover hand to each other; nothing here has to be believed. Assumes nothing.
 use mathlib.Core.Path.{_≡_}
-use mathlib.Core.List.{List, _++_}
+use mathlib.Core.List.{List}
 use Prim.Native.Nat.{ℕ}
 use Rattle.three.specs.Lists.{over}
 use Rattle.three.specs.Record.{pack}
 use Rattle.circuit.specs.declared.Counts.{Counts}
-use Rattle.circuit.specs.Refusal.{Test}
-use Rattle.circuit.specs.Table.{circuitOf, boardTests}
+use Rattle.circuit.specs.Table.{circuitOf}
 use Rattle.circuit.specs.RulesInCode.{Legal}
 use Rattle.cubes.specs.Run.{verdict as verdictOf}
 use Rattle.cubes.specs.Buffer.{cubeIn}
 use Rattle.cubes.specs.BufferInCode.{Cubes}
-use Rattle.cubes.specs.Given.{cubeTests, firstUncovered}
+use Rattle.cubes.specs.Given.{firstUncovered}
 
--- the tests before the cubes are looked into
-abbrev pub givenTests : Counts → List ℕ → List ℕ → ℕ → List Test
-givenTests c table cubes n = boardTests c table ++ cubeTests c cubes n
-
--- they pass
+-- the tests before the cubes are looked into pass
 pub record Sendable (c : Counts) (table : List ℕ) (len n : ℕ) (cubes : List ℕ) : Type 0 where
   pub legal : Legal c table
   pub stand : Cubes (c .latches) len n cubes

@@ -8,7 +8,6 @@ ghost use Prim.Native.Nat.{_+_, _*_, _-_, _<_, _≤_};
 ghost use lib.ListN.{length, drop};
 ghost use Rattle.three.specs.Lists.{over};
 ghost use Rattle.three.specs.Record.{bytesFor, pack};
-ghost use Rattle.circuit.specs.Refusal.{refusal};
 ghost use Rattle.circuit.specs.Table.{circuitOf};
 ghost use Rattle.circuit.specs.RulesInCode.{Legal};
 ghost use Rattle.cubes.specs.Run.{nextCube, lampsIn, start as startOf};
@@ -18,18 +17,7 @@ ghost use Rattle.cubes.specs.Given.{covered};
 ghost use Rattle.stored.specs.CubesInCode.{SwitchesX};
 ghost use Rattle.sent.specs.Call.{Sent};
 ghost use Rattle.sent.specs.Promise.{Keeps};
-ghost use Rattle.sent.specs.SentInCode.{givenTests, Sendable, Walked};
-
-// The refusals before the cubes are looked into, in order: those of a circuit that is run, 10 for the cubes, 14; 0 for none.
-fn given_refusal(counts: Counts, table: &[u16], cubes: &[u8], n: usize) -> u32
-    ensures { λ r. ⌜ r ≡ refusal (givenTests counts (now (table .entry)) (now (cubes .entry)) n) ⌝ }
-{
-    let refused = table::board_refusal(counts, table);
-    if refused != 0 {
-        return refused;
-    }
-    stored::cubes_refusal(counts, cubes, n)
-}
+ghost use Rattle.sent.specs.SentInCode.{Sendable, Walked};
 
 // The start lies inside one of the n cubes.
 fn start_inside(counts: Counts, table: &[u16], cubes: &[u8], n: usize) -> bool
@@ -114,7 +102,7 @@ pub fn cover(
 ) -> CoverAnswer
     ensures { λ r. ⌜ Sent (record { counts = counts; table = now (table .entry); cubes = now (cubes .entry); n = n; verdict = now (verdict .entry) }) r (now (verdict .exit)) × Keeps (record { counts = counts; table = now (table .entry); cubes = now (cubes .entry); n = n; verdict = now (verdict .entry) }) r (now (verdict .exit)) ⌝ }
 {
-    let number = given_refusal(counts, table, cubes, n);
+    let number = judge::given_refusal(counts, table, cubes, n);
     if number != 0 {
         return CoverAnswer { number, cube: 0 };
     }

@@ -6,19 +6,18 @@ use Prim.Native.Nat.{ℕ, _+_, _*_, _<_}
 use native.Mathlib.Omega.{arith}
 use borrow.Author.Tests.{ltb-true, ltb-false}
 use lib.Dec.{ltb}
-use lib.ListN.{length, getD, take, drop, List·getD-append}
+use lib.ListN.{length, getD, drop, List·getD-append}
 use lib.Seq.{getD-drop, getD-take}
 use Rattle.three.specs.Lists.{over, first}
 use Rattle.three.specs.Cube.{Cube, subsumes}
-use Rattle.three.specs.Record.{pack}
 use Rattle.three.proofs.First.{first-ext}
 use Rattle.three.proofs.Lists.{by-test}
 use Rattle.circuit.specs.Circuit.{Circuit}
-use Rattle.cubes.specs.Run.{Found, at, nowhere, search}
-use Rattle.cubes.specs.Buffer.{cubeBytes, packCube, cubeIn}
-use Rattle.cubes.specs.BufferInCode.{Cubes}
+use Rattle.cubes.specs.Run.{Found, at, nowhere}
+use Rattle.cubes.specs.Buffer.{cubeBytes, packCube, cubeIn, cubeOf}
+use Rattle.cubes.specs.BufferInCode.{Cubes, IsCube}
 use Rattle.cubes.specs.Given.{covered}
-use Rattle.cubes.proofs.StoredCube.{cube-at, cube-pack, cube-long, cube-repacked, cube-in-sized, cube-covers, Bytes}
+use Rattle.cubes.proofs.StoredCube.{cube-at, cube-pack, cube-long, cube-repacked, cube-covers, Bytes, cube-of-sized}
 use Rattle.stored.specs.CubesInCode.{coversFrom}
 use Rattle.cubes.proofs.First.{search-first}
 
@@ -27,21 +26,24 @@ pub front-bytes : {latches : ℕ} (v : Cube) → length v ≡ latches → (d : L
 unfolding over
 front-bytes v sized d i h = List·getD-append (packCube v) _ 0 i (omega (arith, cube-long v sized))
 
-module _ (latches len n : ℕ) (cubes : List ℕ) (are : Cubes latches len n cubes) (small : (i : ℕ) → getD cubes i 0 < 256) where
-  given-bytes : (k : ℕ) → k < n → Bytes latches (λ i. getD cubes (k * len + i) 0) (cubeIn latches cubes k)
-  given-bytes k h i l =
-      sym (getD-drop (k * len) cubes i 0)
-      ∙ sym (getD-take (cubeBytes latches) (drop (k * len) cubes) i 0 l)
-      ∙ ap (λ (x : List ℕ). getD x i 0)
-      (cube-repacked latches (drop (k * len) cubes) (are .cube k h) (λ m. rw getD-drop (small (k * len + m)))
-      ∙ ap pack (cube-at latches (are .size) cubes k)
-      ∙ sym (cube-pack (cubeIn latches cubes k)))
+-- the cube at byte `at`
+module _ (latches len : ℕ) (size : len ≡ cubeBytes latches) (cubes : List ℕ) (small : (i : ℕ) → getD cubes i 0 < 256) (at : ℕ) (cube : IsCube latches (drop at cubes)) where
+  pub bytes-at : Bytes latches (λ i. getD cubes (at + i) 0) (cubeOf latches (drop at cubes))
+  bytes-at i l =
+      sym (getD-drop at cubes i 0)
+      ∙ sym (getD-take (cubeBytes latches) (drop at cubes) i 0 l)
+      ∙ ap (λ (x : List ℕ). getD x i 0) (cube-repacked latches (drop at cubes) cube (λ m. rw getD-drop (small (at + m))) ∙ sym (cube-pack (cubeOf latches (drop at cubes))))
 
+  -- the byte-wise test is subsumption
+  pub covers-at : (b : List ℕ) (v : Cube) → length v ≡ latches → Bytes latches (λ i. getD b i 0) v → coversFrom len cubes b at ≡ subsumes (cubeOf latches (drop at cubes)) v
+  unfolding coversFrom
+  covers-at b v sized is = ap (λ (m : ℕ). coversFrom m cubes b at) size ∙ cube-covers _ _ _ _ (cube-of-sized latches _) sized bytes-at is
+
+module _ (latches len n : ℕ) (cubes : List ℕ) (are : Cubes latches len n cubes) (small : (i : ℕ) → getD cubes i 0 < 256) where
   module _ (b : List ℕ) (v : Cube) (sized : length v ≡ latches) (is : Bytes latches (λ i. getD b i 0) v) where
-    -- the byte-wise test is subsumption
-    pub given-covers : (k : ℕ) → k < n → coversFrom len cubes b (k * len) ≡ subsumes (cubeIn latches cubes k) v
-    unfolding coversFrom
-    given-covers k h = ap (λ (m : ℕ). coversFrom m cubes b (k * len)) (are .size) ∙ cube-covers _ _ _ _ (cube-in-sized latches cubes k) sized (given-bytes k h) is
+    given-covers : (k : ℕ) → k < n → coversFrom len cubes b (k * len) ≡ subsumes (cubeIn latches cubes k) v
+    given-covers k h =
+        covers-at latches len (are .size) cubes small (k * len) (are .cube k h) b v sized is ∙ ap (λ (a : Cube). subsumes a v) (cube-at latches (are .size) cubes k)
 
     -- and the search is the definition's
     pub found-inside : (c : Circuit) {j : ℕ} → j ≡ first n (λ k. coversFrom len cubes b (k * len)) → ltb j n ≡ covered c (cubeIn latches cubes) n v

@@ -167,3 +167,17 @@ pub fn search(cubes: &[u8], len: usize, n: usize, b: &[u8]) -> usize
     };
     j
 }
+
+// The cube at byte `at` subsumes b.
+pub fn covers(cubes: &[u8], at: usize, len: usize, b: &[u8]) -> bool
+    requires { ⌜ (at + len ≤ length (now cubes)) × (len ≤ length (now b)) ⌝ }
+    ensures { λ r. ⌜ r ≡ coversFrom len (now (cubes .entry)) (now (b .entry)) at ⌝ }
+{
+    for i in 0..len {
+        let c = cubes[at + i];
+        if c & b[i] != c {
+            return false;
+        }
+    }
+    true
+}

@@ -18,9 +18,7 @@ use Rattle.text.specs.Bench.{bytes}
 use Rattle.text.proofs.Answers.{read-stops, read-fits, reading-refused, reading-accepted}
 use Rattle.text.proofs.RoundTrip.{Carries, read-carries}
 use Rattle.text.proofs.Determined.{reading-determined}
-use Rattle.cubes.specs.declared.RunAnswer.{RunAnswer}
-use Rattle.cubes.specs.Call.{RunGiven}
-use Rattle.witness.specs.Answer.{Answer, answerIn, zeroed}
+use Rattle.witness.specs.Answer.{RunGiven, RunAnswer, Answer, answerIn, zeroed}
 use Rattle.witness.specs.Case.{Claim, number, n, j, s, cubes, verdict, settled, Case, refuses, runs, Says, SaysAll, RefusedAs, RanAs, Meant, MeantAll, same, holds, holdAll, tableOf, refusedWith, ranAs, passes, allPass}
 use Rattle.witness.specs.Computed.{computed}
 use Rattle.witness.proofs.Answers.{Answers, runs-answers, answer-zeroed, answer-tables}

@@ -1,4 +1,4 @@
--- The order of the refusals by example, computed: whatever number the contracts of tick, run and writer allow for a row is the row's. Assumes nothing.
+-- The order of the refusals by example, computed: whatever number the contracts of tick, chain, judge and writer allow for a row is the row's. Assumes nothing.
 use mathlib.Core.Path.{_≡_, refl, sym, _∙_}
 use mathlib.Core.Bool.{true}
 use mathlib.Core.List.{List, [], _∷_}
@@ -14,9 +14,11 @@ use Rattle.text.specs.Decimal.{digits, decimal}
 use Rattle.text.specs.Line.{endedLine}
 use Rattle.text.specs.Text.{headNumbers, shown, numbers, writeBody, writeText}
 use Rattle.text.specs.Calls.{writeTests}
-use Rattle.cubes.specs.Call.{outcomeNumber, RunGiven, refusedBy, outcomeIn}
+use Rattle.cubes.specs.Chain.{outcomeNumber, ChainGiven, refusedBy, outcomeIn}
+use Rattle.cubes.specs.Judge.{JudgeGiven}
+use Rattle.cubes.specs.Examples.{answered}
 use Rattle.witness.specs.Computed.{computed}
-use Rattle.witness.specs.Order.{Row, AsNumbered, numbered, TickAllows, tickNumber, RunAllows, elseOutcome, runNumber, WriteGiven, WriteAllows, writeNumber, ticks, runs, writes}
+use Rattle.witness.specs.Order.{Row, AsNumbered, numbered, TickAllows, tickNumber, ChainAllows, elseOutcome, chainNumber, JudgeAllows, judgeNumber, WriteGiven, WriteAllows, writeNumber, ticks, chains, judges, writes}
 
 all-numbered : {G : Type 0} {Allows : G → ℕ → Type 0} (f : G → ℕ) → ((call : G) (number : ℕ) → Allows call number → number ≡ f call)
     → (rows : List (Row G)) → numbered f rows ≡ true → AsNumbered Allows rows
@@ -39,23 +41,36 @@ ticks-computed = refl
 pub tick-order : AsNumbered TickAllows ticks
 tick-order = all-numbered tickNumber ticks-number ticks ticks-computed
 
--- ---- run
+-- ---- chain
 
-else-outcome : (g : RunGiven) (k : ℕ) → leftBy k (outcomeNumber (outcomeIn g)) k ≡ elseOutcome g k
+else-outcome : (g : ChainGiven) (k : ℕ) → leftBy k (outcomeNumber (outcomeIn g)) k ≡ elseOutcome g k
 unfolding leftBy elseOutcome
 else-outcome g zero = refl
 else-outcome g (suc k) = refl
 
-runs-number : (g : RunGiven) (number : ℕ) → RunAllows g number → number ≡ runNumber g
-unfolding runNumber
-runs-number g number allows = sym (allows .same) ∙ allows .runs .answers ∙ else-outcome g (refusedBy g)
+chains-number : (g : ChainGiven) (number : ℕ) → ChainAllows g number → number ≡ chainNumber g
+unfolding chainNumber
+chains-number g number allows = sym (allows .same) ∙ allows .chained .answers ∙ else-outcome g (refusedBy g)
 
-runs-computed : numbered runNumber runs ≡ true
-unfolding computed numbered runNumber elseOutcome runs
-runs-computed = refl
+chains-computed : numbered chainNumber chains ≡ true
+unfolding computed numbered chainNumber elseOutcome chains
+chains-computed = refl
 
-pub run-order : AsNumbered RunAllows runs
-run-order = all-numbered runNumber runs-number runs runs-computed
+pub chain-order : AsNumbered ChainAllows chains
+chain-order = all-numbered chainNumber chains-number chains chains-computed
+
+-- ---- judge
+
+judges-number : (g : JudgeGiven) (number : ℕ) → JudgeAllows g number → number ≡ judgeNumber g
+unfolding judgeNumber
+judges-number g number allows = sym (allows .same) ∙ allows .judged .answers
+
+judges-computed : numbered judgeNumber judges ≡ true
+unfolding computed answered numbered judgeNumber judges
+judges-computed = refl
+
+pub judge-order : AsNumbered JudgeAllows judges
+judge-order = all-numbered judgeNumber judges-number judges judges-computed
 
 -- ---- writer
 

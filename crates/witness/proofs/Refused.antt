@@ -1,4 +1,4 @@
--- What a refusal leaves, from the contracts alone: zeros beside the number, and every lent buffer as it was; after 15 the cubes and n. Assumes nothing.
+-- What a refusal leaves, from the contracts alone: zeros beside the number, and every lent buffer as it was; before 15 no cube either. Assumes nothing.
 use mathlib.Core.Path.{_≡_, sym, _∙_}
 use mathlib.Core.List.{List}
 use Prim.Native.Nat.{ℕ}
@@ -7,8 +7,10 @@ use Rattle.circuit.proofs.Refusals.{refused-old}
 use Rattle.tick.specs.Tick.{TickGiven, Ticked}
 use Rattle.text.specs.Calls.{Reading, Writing, readInto, zeros}
 use Rattle.text.specs.Outcome.{Outcome, accepted, refused, numberOf, leaves}
-use Rattle.cubes.specs.declared.RunAnswer.{RunAnswer}
-use Rattle.cubes.specs.Call.{RunGiven, refusedBy, Runs}
+use Rattle.cubes.specs.declared.ChainAnswer.{ChainAnswer}
+use Rattle.cubes.specs.declared.JudgeAnswer.{JudgeAnswer}
+use Rattle.cubes.specs.Chain.{ChainGiven, refusedBy, Chained}
+use Rattle.cubes.specs.Judge.{JudgeGiven, Judged}
 
 -- ---- the reader
 
@@ -34,21 +36,18 @@ write-leaves {c} {table} {buffer} {number} w h = (w .returns ∙ sym (refused-ol
 pub tick-leaves : {g : TickGiven} {number : ℕ} {next lamps : List ℕ} → Ticked g number next lamps → (number ≡ 0 → ⊥) → (next ≡ g .next) × (lamps ≡ g .lamps)
 tick-leaves {g} {number} t h = (t .fills-next ∙ sym (refused-old number _ _ h), t .fills-lamps ∙ sym (refused-old number _ _ h))
 
--- ---- the run
+-- ---- chain and judge
 
-module _ {g : RunGiven} {r : RunAnswer} {cubes verdict settled : List ℕ} (runs : Runs g r cubes verdict settled) where
-  -- no verdict and no settled record after any refusal, 15 among them
-  pub run-leaves-results : (r .number ≡ 0 → ⊥) → (r .settled ≡ 0) × (verdict ≡ g .verdict) × (settled ≡ g .settled)
-  run-leaves-results h = (
-    runs .settles ∙ sym (refused-old (r .number) _ _ h),
-    runs .fills-verdict ∙ sym (refused-old (r .number) _ _ h),
-    runs .fills-settled ∙ sym (refused-old (r .number) _ _ h),
-  )
+pub chain-leaves : {g : ChainGiven} {r : ChainAnswer} {cubes : List ℕ} → Chained g r cubes → (refusedBy g ≡ 0 → ⊥) → (r .cubes ≡ 0) × (r .back ≡ 0) × (cubes ≡ g .cubes)
+chain-leaves {g} chained h = (
+  chained .counts ∙ sym (refused-old (refusedBy g) _ _ h),
+  chained .goes-back ∙ sym (refused-old (refusedBy g) _ _ h),
+  chained .fills-cubes ∙ sym (refused-old (refusedBy g) _ _ h),
+)
 
-  -- and before 15 no cube either
-  pub run-leaves-cubes : (refusedBy g ≡ 0 → ⊥) → (r .cubes ≡ 0) × (r .back ≡ 0) × (cubes ≡ g .cubes)
-  run-leaves-cubes h = (
-    runs .counts ∙ sym (refused-old (refusedBy g) _ _ h),
-    runs .goes-back ∙ sym (refused-old (refusedBy g) _ _ h),
-    runs .fills-cubes ∙ sym (refused-old (refusedBy g) _ _ h),
-  )
+pub judge-leaves : {g : JudgeGiven} {r : JudgeAnswer} {verdict settled : List ℕ} → Judged g r verdict settled → (r .number ≡ 0 → ⊥) → (r .settled ≡ 0) × (verdict ≡ g .verdict) × (settled ≡ g .settled)
+judge-leaves {g} {r} judged h = (
+  judged .settles ∙ sym (refused-old (r .number) _ _ h),
+  judged .fills-verdict ∙ sym (refused-old (r .number) _ _ h),
+  judged .fills-settled ∙ sym (refused-old (r .number) _ _ h),
+)

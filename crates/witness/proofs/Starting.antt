@@ -1,5 +1,5 @@
--- The promises of a run speak of every start that the resets allow. On the circuit of `Unstarted` the lamp is dark for ever from one allowed start and
--- lights from the other, so no run may call it never; with a start value of 0 it would be. Assumes nothing.
+-- The promises of the judge speak of every start that the resets allow. On the circuit of `Unstarted` the lamp is dark for ever from one allowed start and
+-- lights from the other, so no chain that passes may call it never; with a start value of 0 it would be. Assumes nothing.
 use mathlib.Core.Path.{_≡_, refl, sym, ap, _∙_}
 use mathlib.Core.Bool.{Bool, true, false, true≢false}
 use mathlib.Core.List.{List, [], _∷_}
@@ -10,9 +10,9 @@ use Rattle.three.specs.Value.{boolean, unknown, known}
 use Rattle.three.specs.Record.{unpack}
 use Rattle.circuit.specs.Circuit.{signed, value, pass, settle, readings}
 use Rattle.circuit.specs.Table.{circuitOf}
-use Rattle.cubes.specs.declared.RunAnswer.{RunAnswer}
 use Rattle.cubes.specs.Execution.{settings, stateAfter, lampsAfter}
-use Rattle.cubes.specs.Call.{circuitIn}
+use Rattle.cubes.specs.declared.JudgeAnswer.{JudgeAnswer}
+use Rattle.cubes.specs.Judge.{circuitIn}
 use Rattle.cubes.specs.Promise.{Promises}
 use Rattle.witness.specs.Unstarted.{given, from}
 
@@ -29,7 +29,7 @@ pub dark-from-zero : (t : ℕ) → lampsAfter (from false) t ≡ false ∷ []
 unfolding lampsAfter settings readings settle pass value signed boolean circuitOf tabulate
 dark-from-zero t = rw (dark-later t) refl
 
-pub not-never : {w : ℕ} {cubes₀ verdict₀ settled₀ : List ℕ} {r : RunAnswer} {cubes verdict settled : List ℕ}
-    → Promises (given w cubes₀ verdict₀ settled₀) r cubes verdict settled → r .number ≡ 0 → getD (unpack 1 verdict) 0 unknown ≡ known false → ⊥
+pub not-never : {cubes : List ℕ} {n j : ℕ} {verdict₀ settled₀ : List ℕ} {r : JudgeAnswer} {verdict settled : List ℕ}
+    → Promises (given cubes n j verdict₀ settled₀) verdict settled r → r .number ≡ 0 → getD (unpack 1 verdict) 0 unknown ≡ known false → ⊥
 unfolding circuitIn
 not-never promises done e = true≢false (ap (λ (l : List Bool). getD l 0 false) (sym lit-from-one) ∙ promises .covers done (from true) .judged 0 false e 1)

@@ -1,5 +1,5 @@
--- The promises of a run speak of every switch sequence, also of two that differ at one tick alone. On the circuit of `Switched` promises
--- of constant switch settings would not do: under each of them the lamp is dark for ever, and yet no run may call it never. Assumes nothing.
+-- The promises of the judge speak of every switch sequence, also of two that differ at one tick alone. On the circuit of `Switched` promises
+-- of constant switch settings would not do: under each of them the lamp is dark for ever, and yet no chain that passes may call it never. Assumes nothing.
 use mathlib.Core.Path.{_≡_, refl, sym, ap, ap₂, _∙_}
 use mathlib.Core.Bool.{Bool, true, false, _&&_, not, false≢true, true≢false}
 use mathlib.Core.List.{List, [], _∷_}
@@ -12,11 +12,11 @@ use Rattle.three.specs.Value.{boolean, unknown, known}
 use Rattle.three.specs.Record.{unpack}
 use Rattle.circuit.specs.Circuit.{signed, value, pass, settle, readings}
 use Rattle.circuit.specs.Table.{circuitOf}
-use Rattle.cubes.specs.declared.RunAnswer.{RunAnswer}
 use Rattle.cubes.specs.Execution.{Execution, settings, stateAfter, lampsAfter}
-use Rattle.cubes.specs.Call.{circuitIn, Runs}
+use Rattle.cubes.specs.declared.JudgeAnswer.{JudgeAnswer}
+use Rattle.cubes.specs.Judge.{circuitIn}
 use Rattle.cubes.specs.Promise.{Covered, Promises}
-use Rattle.witness.specs.Answer.{Answer, answerIn, Sized, zeroed}
+use Rattle.witness.specs.Answer.{RunGiven, RunAnswer, Runs, Answer, answerIn, Sized, zeroed}
 use Rattle.witness.specs.Computed.{computed}
 use Rattle.witness.specs.Switched.{counts, words, circuit, given, under, always, once}
 use Rattle.witness.proofs.Answers.{runs-answers, answer-zeroed}
@@ -65,21 +65,21 @@ lit-after-once t =
 
 -- ---- the promises
 
--- an execution of the circuit is one of what its run is given
-unfoldable pub covered : (w : ℕ) (cubes₀ verdict₀ settled₀ : List ℕ) (r : RunAnswer) (cubes verdict settled : List ℕ) → Execution circuit → Type 0
+-- an execution of the circuit is one of what the judge is given
+unfoldable pub covered : (cubes : List ℕ) (n j : ℕ) (verdict₀ settled₀ verdict settled : List ℕ) → Execution circuit → Type 0
 unfolding circuitIn
-covered w cubes₀ verdict₀ settled₀ r cubes verdict settled e = Covered (given w cubes₀ verdict₀ settled₀) r cubes verdict settled e
+covered cubes n j verdict₀ settled₀ verdict settled e = Covered (given cubes n j verdict₀ settled₀) verdict settled e
 
 -- two executions that differ, under switch settings that differ at tick t alone, and both covered
-pub record Two (w : ℕ) (cubes₀ verdict₀ settled₀ : List ℕ) (r : RunAnswer) (cubes verdict settled : List ℕ) (t : ℕ) : Type 0 where
+pub record Two (cubes : List ℕ) (n j : ℕ) (verdict₀ settled₀ verdict settled : List ℕ) (t : ℕ) : Type 0 where
   pub alike : (tick : ℕ) → (tick ≡ t → ⊥) → settings (always false) tick ≡ settings (once t) tick
   pub differ : stateAfter (always false) (suc t) ≡ stateAfter (once t) (suc t) → ⊥
-  pub never-on : covered w cubes₀ verdict₀ settled₀ r cubes verdict settled (always false)
-  pub on-once : covered w cubes₀ verdict₀ settled₀ r cubes verdict settled (once t)
+  pub never-on : covered cubes n j verdict₀ settled₀ verdict settled (always false)
+  pub on-once : covered cubes n j verdict₀ settled₀ verdict settled (once t)
 
-module _ {w : ℕ} {cubes₀ verdict₀ settled₀ : List ℕ} {r : RunAnswer} {cubes verdict settled : List ℕ}
-    (promises : Promises (given w cubes₀ verdict₀ settled₀) r cubes verdict settled) (done : r .number ≡ 0) where
-  pub both-covered : (t : ℕ) → Two w cubes₀ verdict₀ settled₀ r cubes verdict settled t
+module _ {cubes : List ℕ} {n j : ℕ} {verdict₀ settled₀ : List ℕ} {r : JudgeAnswer} {verdict settled : List ℕ}
+    (promises : Promises (given cubes n j verdict₀ settled₀) verdict settled r) (done : r .number ≡ 0) where
+  pub both-covered : (t : ℕ) → Two cubes n j verdict₀ settled₀ verdict settled t
   unfolding covered circuitIn
   both-covered t = record {
     alike = alike-elsewhere t;
@@ -94,13 +94,16 @@ module _ {w : ℕ} {cubes₀ verdict₀ settled₀ : List ℕ} {r : RunAnswer} {
   not-never e =
       true≢false (ap (λ (l : List Bool). getD l 0 false) (sym (lit-after-once 0)) ∙ promises .covers done (once 0) .judged 0 false e 1)
 
--- ---- and a run of the circuit is closed, so that the above speaks of something
+-- ---- and a run of the circuit is closed and accepted, so that the above speaks of something
 
 circuit-answer : answerIn (zeroed counts words 0 64) .number ≡ 0
 unfolding computed
 circuit-answer = refl
 
-pub run-closes : {cubes₀ verdict₀ settled₀ : List ℕ} → Sized 64 (given 0 cubes₀ verdict₀ settled₀)
-    → {r : RunAnswer} {cubes verdict settled : List ℕ} → Runs (given 0 cubes₀ verdict₀ settled₀) r cubes verdict settled → r .number ≡ 0
+abbrev ran : List ℕ → List ℕ → List ℕ → RunGiven
+ran cubes verdict settled = record { counts = counts; table = words; w = 0; cubes = cubes; verdict = verdict; settled = settled }
+
+pub run-closes : {cubes₀ verdict₀ settled₀ : List ℕ} → Sized 64 (ran cubes₀ verdict₀ settled₀)
+    → {r : RunAnswer} {cubes verdict settled : List ℕ} → Runs (ran cubes₀ verdict₀ settled₀) r cubes verdict settled → r .number ≡ 0
 run-closes {cubes₀} {verdict₀} {settled₀} sized runs =
-    runs-answers runs .number ∙ ap (λ (a : Answer). a .number) (answer-zeroed 64 (given 0 cubes₀ verdict₀ settled₀) sized) ∙ circuit-answer
+    runs-answers runs .number ∙ ap (λ (a : Answer). a .number) (answer-zeroed 64 (ran cubes₀ verdict₀ settled₀) sized) ∙ circuit-answer

@@ -1,4 +1,4 @@
--- The five wrong versions that the specification (8.2) names: the contract of the run allows none of them on the
+-- The five wrong versions that the specification (8.2) names: the contracts of chain and judge allow none of them on the
 -- witness circuit, over a cube buffer of 64 bytes and buffers of two for verdict and settled record, each of any content. Assumes nothing.
 use mathlib.Core.Path.{_≡_, refl, sym, ap, _∙_}
 use mathlib.Core.List.{List, [], _∷_}
@@ -9,10 +9,8 @@ use Rattle.three.specs.Lists.{tabulate, over}
 use Rattle.three.specs.Value.{Three, unknown, code, decode}
 use Rattle.three.specs.Cube.{Cube}
 use Rattle.three.specs.Record.{pairs, pairAt, unpack}
-use Rattle.cubes.specs.declared.RunAnswer.{RunAnswer}
 use Rattle.cubes.specs.Buffer.{cubeBytes, cubeOf, cubeIn}
-use Rattle.cubes.specs.Call.{Runs}
-use Rattle.witness.specs.Answer.{answerIn, Sized, zeroed}
+use Rattle.witness.specs.Answer.{RunAnswer, Runs, answerIn, Sized, zeroed}
 use Rattle.witness.specs.Computed.{computed}
 use Rattle.witness.specs.Witness.{counts, words, witness, other, right, right-other}
 use Rattle.witness.proofs.Answers.{Answers, runs-answers, answer-zeroed}

@@ -14,9 +14,7 @@ use Rattle.text.specs.Outcome.{Outcome, accepted, refused}
 use Rattle.text.specs.Text.{Content, readText}
 use Rattle.text.specs.Calls.{zeros, Reading}
 use Rattle.text.specs.Bench.{bytes}
-use Rattle.cubes.specs.declared.RunAnswer.{RunAnswer}
-use Rattle.cubes.specs.Call.{RunGiven, Runs}
-use Rattle.witness.specs.Answer.{Answer, answerIn, Sized, zeroed}
+use Rattle.witness.specs.Answer.{RunGiven, RunAnswer, Runs, Answer, answerIn, Sized, zeroed}
 
 -- ---- what is said
 

@@ -11,10 +11,11 @@ use Rattle.circuit.specs.Table.{width, tableTests, circuitOf, wordTests, circui
 use Rattle.text.specs.Bench.{bytes, outcomeOf}
 use Rattle.cubes.specs.Run.{hold, differing, due, switchesUnknown, nextCube, lampsIn, startField, resets, start, reached, widened, store, stage, cubeAt, search, stepped, back, run, merge, mergeFrom, verdict, settled}
 use Rattle.cubes.specs.Buffer.{cubeBytes, packCube, packCubes}
-use Rattle.cubes.specs.Call.{roomIn, storedCubes, backTo, outcomeNumber, runResultTests, runTests, refusedBy, circuitIn, outcomeIn}
+use Rattle.cubes.specs.Chain.{roomIn, storedCubes, backTo, outcomeNumber, chainTests, refusedBy, circuitIn, outcomeIn}
+use Rattle.cubes.specs.Judge.{resultTests}
 use Rattle.witness.specs.Answer.{answerFrom, answerIn}
 use Rattle.witness.specs.Case.{Case, same, holds, holdAll, refusedWith, ranAs, passes, allPass}
 
 unfoldable pub computed : List Case → Bool
-unfolding outcomeOf bytes tabulate adjust over code both inverse ternary alike allows subsumes blank agree merged knownFields byteOf byteAt pack signed value pass settle readings allHold leftBy width tableTests circuitOf wordTests circuitTests lampTests boardTests hold differing due switchesUnknown nextCube lampsIn startField start reached widened store stage cubeAt search back run merge verdict settled flatMap zipWith roomIn storedCubes backTo outcomeNumber runResultTests runTests refusedBy circuitIn outcomeIn answerFrom answerIn same holds holdAll refusedWith ranAs passes allPass packCubes packCube cubeBytes stepped mergeFrom resets
+unfolding outcomeOf bytes tabulate adjust over code both inverse ternary alike allows subsumes blank agree merged knownFields byteOf byteAt pack signed value pass settle readings allHold leftBy width tableTests circuitOf wordTests circuitTests lampTests boardTests hold differing due switchesUnknown nextCube lampsIn startField start reached widened store stage cubeAt search back run merge verdict settled flatMap zipWith roomIn storedCubes backTo outcomeNumber chainTests resultTests refusedBy circuitIn outcomeIn answerFrom answerIn same holds holdAll refusedWith ranAs passes allPass packCubes packCube cubeBytes stepped mergeFrom resets
 computed cases = allPass cases

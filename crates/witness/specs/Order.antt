@@ -1,4 +1,4 @@
--- The order of the refusals by example (specification, 7.2), for tick, run and writer: each row has one
+-- The order of the refusals by example (specification, 7.2), for tick, chain, judge and writer: each row has one
 -- fault and others that come later in the order, the next among them, and gives the first one's number. The reader's stand with
 -- its texts. Assumes nothing.
 use mathlib.Core.Path.{_≡_}
@@ -11,8 +11,10 @@ use Rattle.circuit.specs.declared.Counts.{Counts}
 use Rattle.circuit.specs.Refusal.{refusal}
 use Rattle.tick.specs.Tick.{tickTests, TickGiven, Ticked}
 use Rattle.text.specs.Calls.{writeTests, Writing}
-use Rattle.cubes.specs.declared.RunAnswer.{RunAnswer}
-use Rattle.cubes.specs.Call.{outcomeNumber, RunGiven, refusedBy, outcomeIn, Runs}
+use Rattle.cubes.specs.declared.ChainAnswer.{ChainAnswer}
+use Rattle.cubes.specs.declared.JudgeAnswer.{JudgeAnswer}
+use Rattle.cubes.specs.Chain.{outcomeNumber, ChainGiven, refusedBy, outcomeIn, Chained}
+use Rattle.cubes.specs.Judge.{JudgeGiven, judgeTests, Judged}
 
 -- ---- rows
 
@@ -46,23 +48,33 @@ pub record TickAllows (g : TickGiven) (number : ℕ) : Type 0 where
 unfoldable pub tickNumber : TickGiven → ℕ
 tickNumber g = refusal (tickTests (g .counts) (g .table) (g .state) (g .switches) (length (g .next)) (length (g .lamps)))
 
--- ---- run
+-- ---- chain
 
-pub record RunAllows (g : RunGiven) (number : ℕ) : Type 0 where
-  pub answer : RunAnswer
+pub record ChainAllows (g : ChainGiven) (number : ℕ) : Type 0 where
+  pub answer : ChainAnswer
   pub cubes : List ℕ
-  pub verdict : List ℕ
-  pub settled : List ℕ
-  pub runs : Runs g answer cubes verdict settled
+  pub chained : Chained g answer cubes
   pub same : answer .number ≡ number
 
 -- the refusal before 15, and only without one the outcome's number
-unfoldable pub elseOutcome : RunGiven → ℕ → ℕ
+unfoldable pub elseOutcome : ChainGiven → ℕ → ℕ
 elseOutcome g zero = outcomeNumber (outcomeIn g)
 elseOutcome g (suc k) = suc k
 
-unfoldable pub runNumber : RunGiven → ℕ
-runNumber g = elseOutcome g (refusedBy g)
+unfoldable pub chainNumber : ChainGiven → ℕ
+chainNumber g = elseOutcome g (refusedBy g)
+
+-- ---- judge
+
+pub record JudgeAllows (g : JudgeGiven) (number : ℕ) : Type 0 where
+  pub answer : JudgeAnswer
+  pub verdict : List ℕ
+  pub settled : List ℕ
+  pub judged : Judged g answer verdict settled
+  pub same : answer .number ≡ number
+
+unfoldable pub judgeNumber : JudgeGiven → ℕ
+judgeNumber g = refusal (judgeTests g)
 
 -- ---- writer
 
@@ -125,8 +137,15 @@ one = 0xFF ∷ []
 abbrev tick : Counts → List ℕ → List ℕ → List ℕ → List ℕ → List ℕ → TickGiven
 tick c table state switches next lamps = record { counts = c; table = table; state = state; switches = switches; next = next; lamps = lamps }
 
-abbrev run : Counts → List ℕ → ℕ → List ℕ → List ℕ → List ℕ → RunGiven
-run c table w cubes verdict settled = record { counts = c; table = table; w = w; cubes = cubes; verdict = verdict; settled = settled }
+abbrev chain : Counts → List ℕ → ℕ → List ℕ → ChainGiven
+chain c table w cubes = record { counts = c; table = table; w = w; cubes = cubes }
+
+abbrev judge : Counts → List ℕ → List ℕ → ℕ → ℕ → List ℕ → List ℕ → JudgeGiven
+judge c table cubes n j verdict settled = record { counts = c; table = table; cubes = cubes; n = n; j = j; verdict = verdict; settled = settled }
+
+-- its chain: 0, then 1 for ever
+abbrev made : List ℕ
+made = 0x40 ∷ 0x80 ∷ []
 
 abbrev write : Counts → List ℕ → List ℕ → WriteGiven
 write c table buffer = record { counts = c; table = table; buffer = buffer }
@@ -147,23 +166,39 @@ ticks =
     ∷ tick dark good off off one one gives 0
     ∷ []
 
--- "Run: 3, 16, 10 for the table, 11, 12, 13, 10 for results, 15"
-unfoldable pub runs : List (Row RunGiven)
-runs =
-    run manyDark [] 1001 [] [] [] gives 3
-    ∷ run dark [] 1001 [] [] [] gives 16
-    ∷ run dark broken 1001 [] [] [] gives 16
-    ∷ run dark good 0 (replicate 2 0) one one gives 16
-    ∷ run fair short 1001 [] [] [] gives 10
-    ∷ run fair broken 1001 [] [] [] gives 11
-    ∷ run fair good 1001 [] [] [] gives 12
-    ∷ run fair good 1001 (replicate 65537 0) one one gives 12
-    ∷ run fair good 1000 [] [] [] gives 13
-    ∷ run fair good 1000 (replicate 65537 0) [] one gives 13
-    ∷ run fair good 0 one [] one gives 10
-    ∷ run fair good 0 one one [] gives 10
-    ∷ run fair good 0 one one one gives 15
-    ∷ run fair good 0 (replicate 2 0) one one gives 0
+-- "Chain: 3, 16, 10 for the table, 11, 12, 13, 15"
+unfoldable pub chains : List (Row ChainGiven)
+chains =
+    chain manyDark [] 1001 [] gives 3
+    ∷ chain dark [] 1001 [] gives 16
+    ∷ chain dark broken 1001 [] gives 16
+    ∷ chain dark good 0 (replicate 2 0) gives 16
+    ∷ chain fair short 1001 [] gives 10
+    ∷ chain fair broken 1001 [] gives 11
+    ∷ chain fair good 1001 [] gives 12
+    ∷ chain fair good 1001 (replicate 65537 0) gives 12
+    ∷ chain fair good 1000 [] gives 13
+    ∷ chain fair good 1000 (replicate 65537 0) gives 13
+    ∷ chain fair good 0 one gives 15
+    ∷ chain fair good 0 (replicate 2 0) gives 0
+    ∷ []
+
+-- "Judge: 3, 16, 10 for the table, 11, 10 for the cubes, 14, 19, 10 for results"
+unfoldable pub judges : List (Row JudgeGiven)
+judges =
+    judge manyDark [] [] 1 1 [] [] gives 3
+    ∷ judge dark [] [] 1 1 [] [] gives 16
+    ∷ judge fair short [] 1 1 [] [] gives 10
+    ∷ judge fair broken [] 1 1 [] [] gives 11
+    ∷ judge fair good bad 2 2 [] [] gives 10
+    ∷ judge fair good bad 1 1 [] [] gives 14
+    ∷ judge fair good spilt 1 1 [] [] gives 14
+    ∷ judge fair good made 0 0 [] [] gives 19
+    ∷ judge fair good made 2 2 [] [] gives 19
+    ∷ judge fair good made 2 0 [] [] gives 19
+    ∷ judge fair good made 2 1 [] one gives 10
+    ∷ judge fair good made 2 1 one [] gives 10
+    ∷ judge fair good made 2 1 one one gives 0
     ∷ []
 
 -- "Writer: 3, 10 for the table, 11, 10 for the text"; the text of `good` has 22 bytes

@@ -8,7 +8,7 @@ use Rattle.three.specs.Lists.{tabulate, empty, also}
 use Rattle.circuit.specs.declared.Counts.{Counts}
 use Rattle.circuit.specs.Circuit.{Circuit}
 use Rattle.circuit.specs.Table.{circuitOf}
-use Rattle.cubes.specs.Call.{RunGiven}
+use Rattle.cubes.specs.Judge.{JudgeGiven}
 use Rattle.cubes.specs.Execution.{off, Execution}
 use Rattle.cubes.specs.Run.{resets}
 
@@ -21,9 +21,9 @@ words = 2 ∷ 0 ∷ 6 ∷ 4 ∷ 3 ∷ []
 abbrev pub circuit : Circuit
 circuit = circuitOf counts words
 
--- its run at w, over these buffers
-abbrev pub given : ℕ → List ℕ → List ℕ → List ℕ → RunGiven
-given w cubes verdict settled = record { counts = counts; table = words; w = w; cubes = cubes; verdict = verdict; settled = settled }
+-- these cubes, given to the judge with these buffers
+abbrev pub given : List ℕ → ℕ → ℕ → List ℕ → List ℕ → JudgeGiven
+given cubes n j verdict settled = record { counts = counts; table = words; cubes = cubes; n = n; j = j; verdict = verdict; settled = settled }
 
 -- the execution under such a switch, off at first
 unfoldable pub under : (ℕ → Bool) → Execution circuit

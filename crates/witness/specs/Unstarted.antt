@@ -7,7 +7,7 @@ use Rattle.three.specs.Lists.{tabulate, empty, also}
 use Rattle.circuit.specs.declared.Counts.{Counts}
 use Rattle.circuit.specs.Circuit.{Circuit}
 use Rattle.circuit.specs.Table.{circuitOf}
-use Rattle.cubes.specs.Call.{RunGiven}
+use Rattle.cubes.specs.Judge.{JudgeGiven}
 use Rattle.cubes.specs.Execution.{off, free, Execution}
 use Rattle.cubes.specs.Run.{resets}
 
@@ -20,9 +20,9 @@ words = 0 ∷ 2 ∷ 2 ∷ 0 ∷ 4 ∷ []
 abbrev pub circuit : Circuit
 circuit = circuitOf counts words
 
--- its run at w, over these buffers
-abbrev pub given : ℕ → List ℕ → List ℕ → List ℕ → RunGiven
-given w cubes verdict settled = record { counts = counts; table = words; w = w; cubes = cubes; verdict = verdict; settled = settled }
+-- these cubes, given to the judge with these buffers
+abbrev pub given : List ℕ → ℕ → ℕ → List ℕ → List ℕ → JudgeGiven
+given cubes n j verdict settled = record { counts = counts; table = words; cubes = cubes; n = n; j = j; verdict = verdict; settled = settled }
 
 -- the execution whose first latch starts so
 unfoldable pub from : Bool → Execution circuit

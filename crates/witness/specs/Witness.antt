@@ -4,8 +4,7 @@
 use mathlib.Core.List.{List, [], _∷_}
 use Prim.Native.Nat.{ℕ}
 use Rattle.circuit.specs.declared.Counts.{Counts}
-use Rattle.cubes.specs.Call.{RunGiven}
-use Rattle.witness.specs.Answer.{Answer}
+use Rattle.witness.specs.Answer.{RunGiven, Answer}
 
 abbrev pub counts : Counts
 counts = record { inputs = 0; latches = 4; lamps = 3; gates = 0 }

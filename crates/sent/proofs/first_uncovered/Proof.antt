@@ -6,13 +6,14 @@ use borrow.Author.Tests.{not-true, not-false}
 use Rattle.pass.proofs.Values.{fresh-begins}
 use Rattle.cubes.proofs.Storing.{cube-place}
 use Rattle.sent.proofs.Walking.{of-length}
-use Rattle.sent.proofs.Passing.{judgeable, Passing, begun-long, walked-none, passing-first, verdict-long, walked-part, lamps-long, both-records, passing-next, walked-all}
+use Rattle.judge.proofs.Passing.{Passing, passing-first, begun-long, verdict-long, lamps-long, both-records, passing-next}
+use Rattle.sent.proofs.Passing.{inside, judgeable, asked, asked-first, walked-none, walked-part, walked-all}
 use native.Mathlib.Omega.{arith}
 use Rattle.sent.proofs.first_uncovered.Statement.{statement}
 use Rattle.sent.proofs.first_uncovered.Tie as tie
 
 abbrev Inv-loop : tie.InvT-loop
-Inv-loop counts table cubes n verdict₀ len values₀ lamps₀ k₀ verdict values lamps k = Passing counts table len n cubes verdict₀ verdict values lamps k
+Inv-loop counts table cubes n verdict₀ len values₀ lamps₀ k₀ verdict values lamps k = Passing counts table len n cubes (inside counts table len n cubes) verdict₀ verdict values lamps k
 
 abbrev μ-loop : tie.MeasureT-loop
 μ-loop counts table cubes n verdict₀ len values₀ lamps₀ k₀ verdict values lamps k = n - k
@@ -32,21 +33,20 @@ next-inside-requires c κs =
 same-length : tie.Need-same-length Inv-loop μ-loop
 same-length c =
     let start = c .before .before .before .before .before .before .before .before .before .before .before in
-    let s = of-length _ _ _ _ (start .pre .0) (c .before .before .before .before .before .before .before .cube-bytes .ensures) in
-    begun-long _ _ _ _ _ (start .args .verdict .now) (start .pre .2) _ (c .before .before .before .next-inside .ensures .2) (judgeable _ _ _ _ _ s (start .pre .1))
+    begun-long _ _ _ (start .args .verdict .now) (start .pre .2) (c .before .before .before .next-inside .ensures .2)
 
 returns : tie.Need-returns Inv-loop μ-loop
 returns c =
     let start = c .before .before .before .before .before .before .before .before .before .before .before in
     let s = of-length _ _ _ _ (start .pre .0) (c .before .before .before .before .before .before .before .cube-bytes .ensures) in
-    walked-none _ _ _ _ _ (judgeable _ _ _ _ _ s (start .pre .1)) (c .before .before .before .next-inside .ensures .0) (not-true _ (c .if1 .taken)) _
+    walked-none _ _ _ _ _ (judgeable _ _ _ _ _ s (start .pre .1)) (asked-first _ _ _ _ _ (judgeable _ _ _ _ _ s (start .pre .1)) (c .before .before .before .next-inside .ensures .0)) (not-true _ (c .if1 .taken)) _
 
 loop-holds : tie.Need-loop-holds Inv-loop μ-loop
 loop-holds c =
     let start = c .before .before .before .before .before .before .before .before .before .before .before in
     let s = of-length _ _ _ _ (start .pre .0) (c .before .before .before .before .before .before .before .cube-bytes .ensures) in
-    let inside = c .before .before .before .next-inside .ensures in
-    passing-first _ _ _ _ _ (start .args .verdict .now) (start .pre .2) _ (inside .2) (judgeable _ _ _ _ _ s (start .pre .1)) (inside .0) (not-false _ (c .if1 .left)) _ _ (inside .1) refl
+    let next = c .before .before .before .next-inside .ensures in
+    passing-first _ _ _ _ _ _ (start .args .verdict .now) (start .pre .2) _ (next .2) (judgeable _ _ _ _ _ s (start .pre .1)) (asked-first _ _ _ _ _ (judgeable _ _ _ _ _ s (start .pre .1)) (next .0)) (not-false _ (c .if1 .left)) _ _ (next .1) refl
 
 mul-next-inside : tie.Need-mul-next-inside Inv-loop μ-loop
 mul-next-inside c = omega (arith, cube-place _ _ _ _ (c .loop-test .taken) (c .before .loop .inv .given .fits), c .before .before .before .before .before .before .before .before .before .before .before .before .before .good)
@@ -65,30 +65,30 @@ same-length-2 c =
     let at = c .before .before .before .before .before .before in
     let start = at .before .before .before .before .before .before .before .before .before .before .before .before in
     let first = at .before .before .before .before .next-inside .ensures .2 in
-    verdict-long _ _ _ _ _ (start .args .verdict .now) (start .pre .2) _ first (at .loop .inv)
+    verdict-long _ _ _ _ _ _ (start .args .verdict .now) (start .pre .2) _ first (at .loop .inv)
 
 returns-2 : tie.Need-returns-2 Inv-loop μ-loop
 returns-2 c =
     let at = c .before .before .before .before .before .before in
     let start = at .before .before .before .before .before .before .before .before .before .before .before .before in
     let first = at .before .before .before .before .next-inside .ensures .2 in
-    walked-part _ _ _ _ _ (start .args .verdict .now) (start .pre .2) _ first (at .loop .inv) (c .before .before .before .before .before .loop-test .taken) (c .before .before .next-inside2 .ensures .0) (not-true _ (c .if2 .taken))
+    walked-part _ _ _ _ _ (start .args .verdict .now) (start .pre .2) _ first (at .loop .inv) (c .before .before .before .before .before .loop-test .taken) (asked _ _ _ _ _ (at .loop .inv .given) _ (c .before .before .next-inside2 .ensures .0)) (not-true _ (c .if2 .taken))
 
 slice-aggregate-agree : tie.Need-slice-aggregate-agree Inv-loop μ-loop
 slice-aggregate-agree c =
     let at = c .before .before .before .before .before .before .before .before in
     let start = at .before .before .before .before .before .before .before .before .before .before .before .before in
     let first = at .before .before .before .before .next-inside .ensures .2 in
-    let inside = c .before .before .before .before .next-inside2 .ensures in
-    sym (lamps-long _ _ _ _ _ (start .args .verdict .now) (start .pre .2) _ first (at .loop .inv) (c .before .before .before .before .before .before .before .loop-test .taken) (inside .0) _ (inside .2))
+    let next = c .before .before .before .before .next-inside2 .ensures in
+    sym (lamps-long _ _ _ _ _ _ (start .args .verdict .now) (start .pre .2) _ first (at .loop .inv) (c .before .before .before .before .before .before .before .loop-test .taken) _ (next .2))
 
 agree-requires : tie.Need-agree-requires Inv-loop μ-loop
 agree-requires c κs =
     let at = c .before .before .before .before .before .before .before .before in
     let start = at .before .before .before .before .before .before .before .before .before .before .before .before in
     let first = at .before .before .before .before .next-inside .ensures .2 in
-    let inside = c .before .before .before .before .next-inside2 .ensures in
-    both-records _ _ _ _ _ (start .args .verdict .now) (start .pre .2) _ first (at .loop .inv) (c .before .before .before .before .before .before .before .loop-test .taken) (inside .0) _ (inside .2)
+    let next = c .before .before .before .before .next-inside2 .ensures in
+    both-records _ _ _ _ _ _ (start .args .verdict .now) (start .pre .2) _ first (at .loop .inv) (c .before .before .before .before .before .before .before .loop-test .taken) _ (next .2)
 
 add-k : tie.Need-add-k Inv-loop μ-loop
 add-k c = omega (arith, c .before .before .before .before .before .before .before .before .before .before .before .before .before .before .before .before .before .before .before .before .before .before .before .good)
@@ -101,15 +101,15 @@ loop-again c =
     let at = c .before .before .before .before .before .before .before .before .before .before .before in
     let start = at .before .before .before .before .before .before .before .before .before .before .before .before in
     let first = at .before .before .before .before .next-inside .ensures .2 in
-    let inside = c .before .before .before .before .before .before .before .next-inside2 .ensures in
-    passing-next _ _ _ _ _ (start .args .verdict .now) (start .pre .2) _ first (at .loop .inv) (c .before .before .before .before .before .before .before .before .before .before .loop-test .taken) (inside .0) _ (inside .2) (not-false _ (c .before .before .before .before .before .if2 .left)) _ _ (c .before .before .agree .ensures) (inside .1)
+    let next = c .before .before .before .before .before .before .before .next-inside2 .ensures in
+    passing-next _ _ _ _ _ _ (start .args .verdict .now) (start .pre .2) _ first (at .loop .inv) (c .before .before .before .before .before .before .before .before .before .before .loop-test .taken) _ (next .2) (asked _ _ _ _ _ (at .loop .inv .given) _ (next .0)) (not-false _ (c .before .before .before .before .before .if2 .left)) _ _ (c .before .before .agree .ensures) (next .1)
 
 same-length-3 : tie.Need-same-length-3 Inv-loop μ-loop
 same-length-3 c =
     let at = c .before in
     let start = at .before .before .before .before .before .before .before .before .before .before .before .before in
     let first = at .before .before .before .before .next-inside .ensures .2 in
-    verdict-long _ _ _ _ _ (start .args .verdict .now) (start .pre .2) _ first (at .loop .inv)
+    verdict-long _ _ _ _ _ _ (start .args .verdict .now) (start .pre .2) _ first (at .loop .inv)
 
 returns-3 : tie.Need-returns-3 Inv-loop μ-loop
 returns-3 c =
