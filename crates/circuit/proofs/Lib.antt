@@ -5,3 +5,5 @@ pub mod Pass
 pub mod Sound
 pub mod Narrow
 pub mod Beyond
+pub mod Fixed
+pub mod LiteralValue

@@ -2,15 +2,15 @@
 -- A tick is sound, so the state goes from each cube into the one that follows. Assumes nothing.
 use mathlib.Core.Path.{_≡_, refl, sym, ap, _∙_}
 use mathlib.Core.Bool.{Bool, true, false}
-use mathlib.Core.List.{List}
+use mathlib.Core.List.{List, [], _∷_}
 use Prim.Native.Nat.{ℕ, zero, suc, _-_, _≤_, _<_}
 use native.Mathlib.Decide.{decLt}
 use native.Mathlib.Omega.{arith}
 use lib.ListN.{length, getD, replicate}
-use Rattle.three.specs.Lists.{tabulate, empty, also}
+use Rattle.three.specs.Lists.{empty, also}
 use Rattle.three.specs.Value.{unknown, known, boolean, ternary}
 use Rattle.three.specs.Cube.{Cube, subsumes, Holds, any, off, on, _∋_}
-use Rattle.three.proofs.Lists.{each-getD}
+use Rattle.three.proofs.Lists.{length-tabulate, each-getD}
 use Rattle.circuit.specs.Circuit.{Circuit, next, lamps}
 use Rattle.circuit.proofs.Sound.{readings-sound}
 use Rattle.cubes.specs.Run.{switchesUnknown, nextCube, lampsIn, start, verdict, settled}
@@ -23,21 +23,26 @@ use Rattle.circuit.proofs.Pass.{readings-sized}
 
 -- ---- one tick with all switches X
 
-any-switches : (n : ℕ) (f : ℕ → Bool) → replicate n unknown ∋ tabulate n f
-unfolding tabulate
-any-switches zero f = empty
-any-switches (suc n) f = also any (any-switches n (λ i. f (suc i)))
+pub any-switches : (n : ℕ) (r : List Bool) → length r ≡ n → replicate n unknown ∋ r
+any-switches zero [] e = empty
+any-switches zero (b ∷ r) e = absurd (omega arith)
+any-switches (suc n) [] e = absurd (omega arith)
+any-switches (suc n) (b ∷ r) e = also any (any-switches n r (omega arith))
 
-module _ {c : Circuit} (e : Execution c) (t : ℕ) {cube : Cube} {state : List Bool} (within : cube ∋ state) where
-  next-within : nextCube c cube ∋ next boolean c (settings e t) state
-  unfolding nextCube switchesUnknown settings
-  next-within = readings-sound c _ _ _ _ _ (any-switches (c .inputs) (e .switches t)) within
+module _ (c : Circuit) {cube : Cube} {state : List Bool} (within : cube ∋ state) (r : List Bool) (sized : length r ≡ c .inputs) where
+  next-within : nextCube c cube ∋ next boolean c r state
+  unfolding nextCube switchesUnknown
+  next-within = readings-sound c _ _ _ _ _ (any-switches (c .inputs) r sized) within
 
-  lamps-within : lampsIn c cube ∋ lamps boolean c (settings e t) state
-  unfolding lampsIn switchesUnknown settings
-  lamps-within = readings-sound c _ _ _ _ _ (any-switches (c .inputs) (e .switches t)) within
+  pub lamps-within : lampsIn c cube ∋ lamps boolean c r state
+  unfolding lampsIn switchesUnknown
+  lamps-within = readings-sound c _ _ _ _ _ (any-switches (c .inputs) r sized) within
 
-lamps-sized : (c : Circuit) (a : Cube) → length (lampsIn c a) ≡ length (c .lamps)
+settings-sized : {c : Circuit} (e : Execution c) (t : ℕ) → length (settings e t) ≡ c .inputs
+unfolding settings
+settings-sized {c} e t = length-tabulate (c .inputs) _
+
+pub lamps-sized : (c : Circuit) (a : Cube) → length (lampsIn c a) ≡ length (c .lamps)
 unfolding lampsIn
 lamps-sized c a = readings-sized ternary c _ _ _
 
@@ -49,7 +54,7 @@ unfolding known
 known-alone false off = refl
 known-alone true on = refl
 
-known-at : {cube : Cube} {state : List Bool} → cube ∋ state → (i : ℕ) (v : Bool) → getD cube i unknown ≡ known v → getD state i false ≡ v
+pub known-at : {cube : Cube} {state : List Bool} → cube ∋ state → (i : ℕ) (v : Bool) → getD cube i unknown ≡ known v → getD state i false ≡ v
 known-at within i v e = known-alone v (rw e at (each-getD within {e = false} any i))
 
 -- ---- covers
@@ -74,13 +79,13 @@ module _ {c : Circuit} {cubes : ℕ → Cube} {n origin : ℕ} {follow : ℕ →
     pub visited-covers : (t : ℕ) → cubes (visited origin follow t) ∋ stateAfter e t
     unfolding stateAfter visited
     visited-covers zero = subsumes-widens _ (cover .starts .1) (unfold start in allowed-starts (e .allowed))
-    visited-covers (suc t) = subsumes-widens _ (cover .follows _ (visited-below t) .1) (next-within e t (visited-covers t))
+    visited-covers (suc t) = subsumes-widens _ (cover .follows _ (visited-below t) .1) (next-within c (visited-covers t) (settings e t) (settings-sized e t))
 
     verdict-covers : (t : ℕ) → verdict c cubes n ∋ lampsAfter e t
     unfolding verdict lampsAfter
     verdict-covers t =
         mergeFrom-widens _ _ _ (λ k. lamps-sized c (cubes k)) 0 n (visited origin follow t) (omega arith)
-        (omega (arith, visited-below t)) (lamps-within e t (visited-covers t))
+        (omega (arith, visited-below t)) (lamps-within c (visited-covers t) (settings e t) (settings-sized e t))
 
     -- a lamp of known verdict has that value at every tick
     pub lamp-known : (i : ℕ) (v : Bool) → getD (verdict c cubes n) i unknown ≡ known v → (t : ℕ) → getD (lampsAfter e t) i false ≡ v

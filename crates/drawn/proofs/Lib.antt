@@ -1,10 +1,8 @@
-pub mod Pigeons
 pub mod Loops
 pub mod Picking
 pub mod Sorting
 pub mod Proper
 pub mod Naming
-pub mod Fixed
 pub mod Tables
 pub mod Same
 pub mod Refused

@@ -13,7 +13,7 @@ use Rattle.three.proofs.First.{failing}
 use Rattle.three.proofs.Lists.{by-test, every-fails}
 use Rattle.drawn.specs.Depth.{Source, leaf, gate, depth, deep, loopless}
 use Rattle.drawn.specs.DepthInCode.{Reads, Path, one, more}
-use Rattle.drawn.proofs.Pigeons.{pigeons}
+use Rattle.three.proofs.Pigeons.{pigeons}
 
 module _ (left right : ℕ → Source) where
   -- ---- depth

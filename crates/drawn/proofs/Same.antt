@@ -18,7 +18,7 @@ use Rattle.drawn.specs.Drawing.{Drawing, leaves, lines, own, nextLiteral
 use Rattle.drawn.specs.Meaning.{literal, Solves, nextUnder, lampsUnder, Does, Behaves, Follows}
 use Rattle.drawn.proofs.Proper.{Defined, Proper}
 use Rattle.drawn.proofs.Naming.{gates-sorted, gate-small, line-leaf, line-gate, Numbered, ofLeaf, ofGate, numbered, name-line, name-zero, old, named, left-named, right-named}
-use Rattle.drawn.proofs.Fixed.{Falling, falling, pass-front, pass-at}
+use Rattle.circuit.proofs.Fixed.{Falling, falling, pass-front, pass-at}
 use Rattle.drawn.proofs.Tables.{drawnCircuit, table-circuit}
 use Rattle.drawn.proofs.Picking.{getD-behind}
 

@@ -14,7 +14,7 @@ use Rattle.circuit.specs.Table.{circuitOf}
 use Rattle.drawn.specs.Drawing.{Drawing, leaves, lines, own, nextLiteral, lamp, left, right, table}
 use Rattle.drawn.specs.Meaning.{literal, Solves, nextUnder, lampsUnder}
 use Rattle.drawn.proofs.Proper.{Proper}
-use Rattle.drawn.proofs.Fixed.{Falling, falling, pass-front, pass-at}
+use Rattle.circuit.proofs.Fixed.{Falling, falling, pass-front, pass-at}
 use Rattle.drawn.proofs.Same.{next-same, lamps-same}
 use Rattle.drawn.proofs.Picking.{getD-behind}
 

@@ -57,6 +57,16 @@ module _ (c : Counts) (words : List ℕ) (legal : Legal c words) where
         let front : take (1 + c .inputs) (valuesOf t₂) ≡ low ∷ switches = rw (h₂ .same, h₁ .same) (switches-loaded (valuesOf t₀) (length-values t₀ ∙ w .long)) in
         rw front at b
 
+-- the same where the switches stand in the table
+module _ (c : Counts) (words : List ℕ) where
+  pub switches-settle : (switches state : Cube) → length switches ≡ c .inputs → (t t′ : List ℕ) → Begins t (low ∷ switches)
+      → Begins t′ (pass ternary (take (1 + c .inputs) (valuesOf t) ++ state) (circuitOf c words .gates)) → Begins t′ (settle ternary (circuitOf c words) switches state)
+  unfolding settle ternary
+  switches-settle switches state sized t t′ r b =
+      let long : length (low ∷ switches) ≡ 1 + c .inputs = omega arith in
+      let front : take (1 + c .inputs) (valuesOf t) ≡ low ∷ switches = rw (← long) (r .same) in
+      rw front at b
+
 -- ---- a literal of the circuit is read from the values that the table begins with
 
 module _ (c : Counts) (words : List ℕ) (legal : Legal c words) where
@@ -76,7 +86,7 @@ module _ (c : Counts) (words : List ℕ) (legal : Legal c words) where
     unfolding settle circuitOf
     length-settle = length-pass ternary _ _ ∙ rw (length-append, length-tabulate) (omega arith)
 
-    value-begins : (x : ℕ) → x ≤ top c → value ternary (valuesOf table) x ≡ value ternary values x
+    pub value-begins : (x : ℕ) → x ≤ top c → value ternary (valuesOf table) x ≡ value ternary values x
     value-begins x h =
         sym (value-take ternary (valuesOf table) x (length values) (omega (arith, length-settle)))
         ∙ ap (λ (l : List Three). value ternary l x) (begins .same)

@@ -29,7 +29,7 @@ pub fn fresh_values() -> Values
     values
 }
 
-fn variable(values: &Values, v: usize) -> u8
+pub fn variable(values: &Values, v: usize) -> u8
     requires { ⌜ (v < 4096) × Working (now values) ⌝ }
     ensures { λ r. ⌜ r ≡ code (getD (valuesOf (now (values .entry))) v low) ⌝ }
 {

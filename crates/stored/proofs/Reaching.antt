@@ -1,8 +1,7 @@
 -- A working table with all switches X serves pass after pass: each gives the circuit's values for the state that was loaded. Assumes nothing.
 use mathlib.Core.Path.{_≡_, sym, ap, _∙_}
 use mathlib.Core.List.{List, _∷_, _++_}
-use Prim.Native.Nat.{ℕ, suc, _+_, _-_, _≤_}
-use native.Mathlib.Numerals.{one-add}
+use Prim.Native.Nat.{ℕ, _+_, _-_, _≤_}
 use native.Mathlib.Omega.{arith}
 use lib.ListN.{length, getD, take, drop, replicate, length-drop, length-replicate, length-append, List·getD-append}
 use lib.Seq.{paste, take-all, take-take}
@@ -17,7 +16,7 @@ use Rattle.circuit.specs.Table.{circuitOf, literalsAt}
 use Rattle.circuit.specs.RulesInCode.{Legal}
 use Rattle.circuit.proofs.Pass.{length-pass, pass-front}
 use Rattle.pass.specs.ValuesInCode.{valuesOf, Begins, literalValues}
-use Rattle.pass.proofs.Settling.{next-stored, lamps-stored}
+use Rattle.pass.proofs.Settling.{switches-settle, next-stored, lamps-stored}
 use Rattle.cubes.specs.Run.{switchesUnknown, nextCube, lampsIn}
 use Rattle.cubes.specs.HeldInCode.{keptByte}
 use Rattle.stored.specs.CubesInCode.{keptBytes, SwitchesX, Settled}
@@ -30,15 +29,10 @@ module _ (c : Counts) (words : List ℕ) where
   abbrev front : List Three
   front = low ∷ replicate (c .inputs) unknown
 
-  length-front : length front ≡ 1 + c .inputs
-  length-front = rw (one-add) (ap suc (length-replicate (c .inputs) unknown))
-
   pub cube-settles : (t t′ bytes : List ℕ) → SwitchesX c t → Begins t′ (pass ternary (take (1 + c .inputs) (valuesOf t) ++ unpack (c .latches) bytes) (circuitOf c words .gates))
       → Settled c words (cubeOf (c .latches) bytes) t′
-  unfolding settle ternary switchesUnknown circuitOf
-  cube-settles t t′ bytes r b =
-      let known : take (1 + c .inputs) (valuesOf t) ≡ front = rw (← length-front) (r .same) in
-      rw (← cube-fields (c .latches) bytes) (rw known at b)
+  unfolding switchesUnknown circuitOf
+  cube-settles t t′ bytes r b = rw (← cube-fields (c .latches) bytes) (switches-settle c words _ _ (length-replicate (c .inputs) unknown) t t′ r b)
 
   pub ready-again : (t : List ℕ) (state : Cube) → Settled c words state t → SwitchesX c t
   unfolding settle ternary switchesUnknown circuitOf

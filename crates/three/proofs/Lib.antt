@@ -11,3 +11,5 @@ pub mod Counting
 pub mod Subsuming
 pub mod Filling
 pub mod Bytewise
+pub mod Pigeons
+pub mod GateRule

@@ -80,6 +80,12 @@ tabulate-set zero f g v e h = refl
 tabulate-set (suc n) f g zero e h = ap₂ (λ x l. x ∷ l) e (tabulate-ext n (λ i. g (suc i)) (λ i. f (suc i)) (λ i k. h (suc i) (λ q. omega arith)))
 tabulate-set (suc n) f g (suc v) e h = ap₂ (λ x l. x ∷ l) (h zero (λ q. omega arith)) (tabulate-set n (λ i. f (suc i)) (λ i. g (suc i)) v e (λ i k. h (suc i) (λ q. k (omega arith))))
 
+-- within a list the default does not matter
+pub getD-any : {A : Type 0} (l : List A) (i : ℕ) (d e : A) → i < length l → getD l i d ≡ getD l i e
+getD-any [] i d e h = absurd (not-suc-le-zero h)
+getD-any (x ∷ l) zero d e h = refl
+getD-any (x ∷ l) (suc i) d e h = getD-any l i d e (le-of-suc-le-suc h)
+
 -- ---- every
 
 pub every-at : (n : ℕ) (p : ℕ → Bool) → every n p ≡ true → (i : ℕ) → i < n → p i ≡ true

@@ -20,6 +20,12 @@ falling n zero f h = tt
 falling n (suc m) f h =
     let a = h 0 (omega arith) in
     (omega (arith, a .0), omega (arith, a .1), falling (suc n) m (λ i. f (suc i)) (λ i l. let b = h (suc i) (suc-le-suc l) in (omega (arith, b .0), omega (arith, b .1))))
+
+-- and so each by its number
+pub falling-at : (n : ℕ) (gs : List Gate) (i : ℕ) (g₀ : Gate) → Falling n gs → i < length gs → (getD gs i g₀ .left < 2 * (n + i)) × (getD gs i g₀ .right < 2 * (n + i))
+falling-at n [] i g₀ f h = absurd (not-suc-le-zero h)
+falling-at n (g ∷ gs) zero g₀ f h = (omega (arith, f .0), omega (arith, f .1))
+falling-at n (g ∷ gs) (suc i) g₀ f h = let b = falling-at (suc n) gs i g₀ (f .2) (le-of-suc-le-suc h) in (omega (arith, b .0), omega (arith, b .1))
 
 module _ {A : Type 0} (logic : Logic A) where
   abbrev output : List A → Gate → A
