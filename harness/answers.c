@@ -9,6 +9,7 @@
  *   chain I L O A WORDS w.. W CUBES
  *   judge I L O A WORDS w.. CUBES b.. N J VERDICT SETTLED
  *   cover I L O A WORDS w.. CUBES b.. N VERDICT
+ *   why I L O A WORDS w.. STATE b.. LAMP WHY
  */
 #include "drawing.h"
 #include "simulator.h"
@@ -364,6 +365,25 @@ static void answer_cover(line_rest rest)
     free(verdict);
 }
 
+static void answer_why(line_rest rest)
+{
+    static uint8_t state[MOST_BYTES];
+    chudravik_counts counts = take_counts(&rest);
+    size_t words = take_words(&rest, given_table);
+    size_t state_bytes = take_bytes(&rest, state);
+    size_t lamp = take_number(&rest);
+    size_t why_bytes = take_number(&rest);
+    if (is_turned_away(&rest, words, longer(state_bytes, why_bytes))) {
+        return;
+    }
+    uint8_t *why = lend(why_bytes);
+    uint32_t number = simulate_why(counts, given_table, words, state, state_bytes, lamp, why, why_bytes);
+    printf("why number %u", (unsigned)number);
+    show_bytes("why", why, why_bytes);
+    putchar('\n');
+    free(why);
+}
+
 /* ---- the list ---- */
 
 static bool skip_name(line_rest *rest, const char *name)
@@ -395,6 +415,8 @@ static void answer_line(line_rest rest)
         answer_judge(rest);
     } else if (skip_name(&rest, "cover")) {
         answer_cover(rest);
+    } else if (skip_name(&rest, "why")) {
+        answer_why(rest);
     } else {
         puts("not a vector");
     }

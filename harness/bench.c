@@ -41,7 +41,7 @@ static const plan PLANS[] = {
 enum { CIRCUITS = sizeof PLANS / sizeof PLANS[0] };
 
 /* What the calls are given: a circuit in words and as text, a state and a switch setting, w and the lengths, for a judge the
- * circuit's chain, and for a cover 512 cubes. */
+ * circuit's chain, for a cover 512 cubes, and for a why a state in which all latches are known, and a lamp. */
 typedef struct {
     chudravik_counts counts;
     uint16_t table[CHUDRAVIK_MOST_TABLE_WORDS];
@@ -64,6 +64,9 @@ typedef struct {
     uint8_t sent[SENT_CUBES * CHUDRAVIK_RECORD_BYTES(CHUDRAVIK_MOST_LATCHES)];
     size_t sent_bytes;
     size_t sent_cubes;
+    uint8_t known[CHUDRAVIK_RECORD_BYTES(CHUDRAVIK_MOST_LATCHES)];
+    size_t known_bytes;
+    size_t lamp;
 } request;
 
 static uint64_t seed = 0x2545F4914F6CDD1D;
@@ -185,6 +188,35 @@ static void make_cover(request *r)
     r->sent_bytes = SENT_CUBES * bytes;
 }
 
+static size_t latches_in(const uint8_t *record, size_t latches)
+{
+    size_t count = 0;
+    for (size_t i = 0; i < latches; i++) {
+        count += CHUDRAVIK_FIELD(record, i) != CHUDRAVIK_UNKNOWN;
+    }
+    return count;
+}
+
+/* Of the lamps that are known the one that most latches force. What is drawn here moves no circuit behind. */
+static void make_question(request *r)
+{
+    uint8_t why[CHUDRAVIK_RECORD_BYTES(CHUDRAVIK_MOST_LATCHES)];
+    uint64_t kept = seed;
+    size_t most = 0;
+    for (size_t i = 0; i < r->counts.latches; i++) {
+        r->known[i / 4] |= (uint8_t)((1 + random_below(2)) << (6 - 2 * (i % 4)));
+    }
+    seed = kept;
+    r->known_bytes = sizeof r->known;
+    for (size_t i = 0; i < r->counts.lamps; i++) {
+        uint32_t number = chudravik_why(r->counts, r->table, r->table_words, r->known, r->known_bytes, i, why, sizeof why);
+        if (number == CHUDRAVIK_ACCEPTED && latches_in(why, r->counts.latches) >= most) {
+            r->lamp = i;
+            most = latches_in(why, r->counts.latches);
+        }
+    }
+}
+
 static void make_request(const plan *p, request *r)
 {
     memset(r, 0, sizeof *r);
@@ -203,6 +235,21 @@ static void make_request(const plan *p, request *r)
     r->text_bytes = chudravik_write(r->counts, r->table, r->table_words, r->text, r->text_room).bytes;
     make_chain(r);
     make_cover(r);
+    make_question(r);
+}
+
+/* The ceilings, with each gate the inverse of the one before it: lamp 0 has all of them below it. */
+static void make_deepest(const request *largest, request *r)
+{
+    *r = *largest;
+    size_t first_gate = 2 * (1 + r->counts.inputs + r->counts.latches);
+    uint16_t *lamps = r->table + 2 * r->counts.latches, *gates = lamps + r->counts.lamps;
+    for (size_t i = 0; i < r->counts.gates; i++) {
+        gates[2 * i] = (uint16_t)((i == 0 ? 2 * (1 + r->counts.inputs) : first_gate + 2 * (i - 1)) + 1);
+        gates[2 * i + 1] = 1;
+    }
+    lamps[0] = (uint16_t)(first_gate + 2 * (r->counts.gates - 1));
+    r->lamp = 0;
 }
 
 /* ---- the two sides ---- */
@@ -267,6 +314,9 @@ static answer of_cover(chudravik_cover_answer a)
 #define COVER(side, r, b)                                                                                       \
     of_cover(side##_cover(r->counts, r->table, r->table_words, r->sent, r->sent_bytes, r->sent_cubes,           \
                           b->verdict, r->verdict_bytes))
+#define WHY(side, r, b)                                                                                         \
+    of_tick(side##_why(r->counts, r->table, r->table_words, r->known, r->known_bytes, r->lamp, b->settled,      \
+                       r->settled_bytes))
 #define SIDE(name, CALL, side)                                                                                  \
     static answer name(const request *r, buffers *b)                                                            \
     {                                                                                                           \
@@ -279,12 +329,14 @@ SIDE(library_tick, TICK, chudravik)
 SIDE(library_chain, CHAIN, chudravik)
 SIDE(library_judge, JUDGE, chudravik)
 SIDE(library_cover, COVER, chudravik)
+SIDE(library_why, WHY, chudravik)
 SIDE(c_read, READ, plain)
 SIDE(c_write, WRITE, plain)
 SIDE(c_tick, TICK, plain)
 SIDE(c_chain, CHAIN, plain)
 SIDE(c_judge, JUDGE, plain)
 SIDE(c_cover, COVER, plain)
+SIDE(c_why, WHY, plain)
 
 /* Both calls of a run: the chain, and the judge of what it left. */
 #define RUN(name, side)                                                                                         \
@@ -315,6 +367,7 @@ static const pair CHAINING = {"chain", library_chain, c_chain};
 static const pair JUDGING = {"judge", library_judge, c_judge};
 static const pair RUNNING = {"both", library_run, c_run};
 static const pair COVERING = {"cover", library_cover, c_cover};
+static const pair ASKING = {"why", library_why, c_why};
 
 /* ---- equal answers ---- */
 
@@ -380,7 +433,7 @@ static void check_texts(const request *sound)
 /* The refusals of every call that is given a circuit. */
 static void check_circuits(const request *sound)
 {
-    static const pair *const GIVEN[] = {&WRITING, &TICKING, &CHAINING, &JUDGING, &COVERING};
+    static const pair *const GIVEN[] = {&WRITING, &TICKING, &CHAINING, &JUDGING, &COVERING, &ASKING};
     static request r;
     for (size_t i = 0; i < sizeof GIVEN / sizeof GIVEN[0]; i++) {
         r = *sound;
@@ -480,6 +533,24 @@ static void check_covers(const request *sound)
     expect(&COVERING, &r, CHUDRAVIK_TOO_SHORT);
 }
 
+static void check_questions(const request *sound)
+{
+    static request r;
+    r = *sound;
+    r.known_bytes = 0;
+    expect(&ASKING, &r, CHUDRAVIK_TOO_SHORT);
+    r = *sound;
+    r.known[0] |= 0xC0;
+    expect(&ASKING, &r, CHUDRAVIK_RECORD);
+    r = *sound;
+    r.settled_bytes = 0;
+    expect(&ASKING, &r, CHUDRAVIK_TOO_SHORT);
+    r.table[2 * r.counts.latches + r.lamp] = 2; /* a switch */
+    expect(&ASKING, &r, CHUDRAVIK_LAMP_UNKNOWN);
+    r.lamp = r.counts.lamps;
+    expect(&ASKING, &r, CHUDRAVIK_NO_SUCH_LAMP);
+}
+
 /* ---- times ---- */
 
 static double now(void)
@@ -531,7 +602,7 @@ static times measure(const pair *p, const request *r, size_t rounds)
 
 /* ---- the report ---- */
 
-static request requests[CIRCUITS];
+static request requests[CIRCUITS], deepest;
 
 /* The same with bytes 13 and 10 at the end of each line; the largest is then over what is read. */
 static request saved[CIRCUITS];
@@ -590,8 +661,11 @@ static void check_all(void)
         expect(&JUDGING, &requests[i], CHUDRAVIK_ACCEPTED);
         runs[i] = expect(&RUNNING, &requests[i], CHUDRAVIK_ACCEPTED);
         expect(&COVERING, &requests[i], CHUDRAVIK_ACCEPTED);
+        expect(&ASKING, &requests[i], CHUDRAVIK_ACCEPTED);
         print_circuit(i);
     }
+    make_deepest(&requests[CIRCUITS - 1], &deepest);
+    expect(&ASKING, &deepest, CHUDRAVIK_ACCEPTED);
     for (size_t i = 0; i < SAVED; i++) {
         save_at_the_office(&requests[i], &saved[i]);
         expect(&READING, &saved[i], CHUDRAVIK_ACCEPTED);
@@ -602,6 +676,7 @@ static void check_all(void)
     check_records(&requests[0]);
     check_chains(&requests[0]);
     check_covers(&requests[0]);
+    check_questions(&requests[0]);
     printf("equal answers and bytes from both sides\n\n");
 }
 
@@ -655,6 +730,9 @@ int main(int argc, char **argv)
     report(&JUDGING, requests, CIRCUITS, words_times_cubes, "words x cubes", rounds, judge);
     report(&RUNNING, requests, CIRCUITS, words_times_cubes, "words x cubes", rounds, both);
     report(&COVERING, requests, CIRCUITS, words_times_sent, "words x 512 cubes", rounds, NULL);
+    report(&ASKING, requests, CIRCUITS, words_of_table, "words of table", rounds, NULL);
+    times deep = measure(&ASKING, &deepest, rounds);
+    printf("%-6s %-8s %12.1f %12.1f %7.3f\n", ASKING.name, "deepest", deep.library, deep.plain, deep.library / deep.plain);
     printf("\nwith a lamp added, the judge alone for both calls:");
     for (size_t i = 0; i < CIRCUITS; i++) {
         printf(" %s %.2f", PLANS[i].name, judge[i] / both[i]);

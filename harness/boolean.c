@@ -9,7 +9,8 @@
  * forgotten, which may be refused. The same of covers: the cubes of a closed chain in another order,
  * which must be accepted with the chain's verdict; the one cube that comes of merging states until nothing is new; and a cube
  * for each value of a latch, which may be refused. At each tick the state must lie inside one of the cubes, and the lamps
- * agree with the verdict. TICKS is how many ticks are done at least, each execution's
+ * agree with the verdict. And of why: where a lamp is known in a cube of a chain, it has that value in every state that
+ * agrees with the latches that force it, under any switches. TICKS is how many ticks are done at least, each execution's
  * counted; half of them go to the files. Exits 1, with the circuit's text, on a contradiction; and where TICKS is a
  * million or more, if too few verdicts came up to mean anything.
  *
@@ -59,7 +60,7 @@ enum { OF_CHAIN, OF_MERGE, OF_LATCH, COVERS };
 
 static struct {
     uint64_t circuits, files, runs, closed, no_room, mended, rough, rough_refused, never, always, open, open_seen_both, settled, free_starts, ticks;
-    uint64_t accepted[COVERS], refused, sent_never, sent_always;
+    uint64_t accepted[COVERS], refused, sent_never, sent_always, forced, forced_free;
 } sum;
 
 static struct circuit circuit;
@@ -472,6 +473,48 @@ static void send_covers(const struct run *run)
             count_cover(s);
 }
 
+/* ---- why ---- */
+
+/* States by chance, but for the latches that force it. */
+static void start_inside(const uint8_t *record)
+{
+    for (size_t i = 0; i < circuit.counts.latches; i++) {
+        unsigned field = CHUDRAVIK_FIELD(record, i);
+        state()[i] = field == CHUDRAVIK_UNKNOWN ? draw() : field == CHUDRAVIK_HIGH ? UINT64_MAX : 0;
+        sum.forced_free += field == CHUDRAVIK_UNKNOWN;
+    }
+    for (size_t i = 0; i < circuit.counts.inputs; i++)
+        switches[i] = draw();
+}
+
+static void force_lamp(const uint8_t *cube, size_t lamp)
+{
+    uint8_t why[CHUDRAVIK_RECORD_BYTES(CHUDRAVIK_MOST_LATCHES)];
+    uint32_t number = chudravik_why(circuit.counts, circuit.table, circuit.words, cube,
+                                    CHUDRAVIK_RECORD_BYTES(circuit.counts.latches), lamp, why, sizeof why);
+    if (number == CHUDRAVIK_LAMP_UNKNOWN)
+        return;
+    if (number != CHUDRAVIK_ACCEPTED)
+        fail("why", "refused", number);
+    start_inside(why);
+    pass_gates();
+    if (lamps[lamp] != 0 && lamps[lamp] != UINT64_MAX)
+        fail("why", "the latches named do not force the lamp", (uint32_t)lamp);
+    uint64_t forced = lamps[lamp];
+    start_inside(cube);
+    pass_gates();
+    if (lamps[lamp] != forced)
+        fail("why", "the latches named force the lamp otherwise", (uint32_t)lamp);
+    sum.forced++;
+}
+
+static void force_lamps(const struct run *run)
+{
+    const uint8_t *cube = run->cubes + below(run->n) * CHUDRAVIK_RECORD_BYTES(circuit.counts.latches);
+    for (size_t i = 0; i < circuit.counts.lamps; i++)
+        force_lamp(cube, i);
+}
+
 /* Goes at least twice through the longest closed chain, so that each cube of its round is met again. */
 static void examine(uint64_t least_ticks)
 {
@@ -483,6 +526,7 @@ static void examine(uint64_t least_ticks)
     const struct run *run = &runs[below(INTERVALS)];
     blur_chains(run);
     send_covers(run);
+    force_lamps(run);
     for (size_t r = 0; r < RUNS; r++)
         if (runs[r].closed && runs[r].n > longest)
             longest = runs[r].n;
@@ -784,6 +828,7 @@ static void print_sum(void)
            "; never %" PRIu64 ", always %" PRIu64 "\n",
            sum.accepted[OF_CHAIN], sum.accepted[OF_MERGE], sum.accepted[OF_LATCH], sum.refused, sum.sent_never,
            sum.sent_always);
+    printf("lamps forced %" PRIu64 ", with latches left free %" PRIu64 "\n", sum.forced, sum.forced_free);
     printf("ticks %" PRIu64 "\n", sum.ticks);
 }
 
@@ -808,7 +853,7 @@ int main(int argc, char **argv)
     print_sum();
     if (ticks >= MANY_TICKS &&
         (sum.never < LEAST_OF_A_KIND || sum.always < LEAST_OF_A_KIND || sum.settled < LEAST_OF_A_KIND ||
-         sum.free_starts < LEAST_OF_A_KIND || sum.mended < LEAST_OF_A_KIND || sum.rough < LEAST_OF_A_KIND ||
+         sum.free_starts < LEAST_OF_A_KIND || sum.forced < LEAST_OF_A_KIND || sum.forced_free < LEAST_OF_A_KIND || sum.mended < LEAST_OF_A_KIND || sum.rough < LEAST_OF_A_KIND ||
          sum.rough_refused < LEAST_OF_A_KIND || sum.sent_never < LEAST_OF_A_KIND || sum.sent_always < LEAST_OF_A_KIND ||
          sum.accepted[OF_LATCH] < LEAST_OF_A_KIND || sum.refused < LEAST_OF_A_KIND)) {
         fprintf(stderr, "boolean: too few verdicts of a kind\n");

@@ -995,7 +995,7 @@ static void lend_record(enum role role, size_t fields)
 /* ---- what was met ---- */
 
 /* The numbers as they are, but 10 by what was too short. */
-enum { MOST_NUMBER = 22, TEN_TABLE, TEN_GIVEN, TEN_RESULT, OUTCOMES };
+enum { MOST_NUMBER = 24, TEN_TABLE, TEN_GIVEN, TEN_RESULT, OUTCOMES };
 
 static uint64_t met[CALLS][OUTCOMES];
 
@@ -1014,6 +1014,9 @@ static bool can_give(enum call call, size_t outcome)
     case CHAIN:
         return outcome == 0 || outcome == 3 || (outcome >= 11 && outcome <= 13) || outcome == 15 ||
                outcome == 16 || outcome == TEN_TABLE;
+    case WHY:
+        return outcome == 0 || outcome == 3 || outcome == 11 || outcome == 14 || outcome == 23 || outcome == 24 ||
+               outcome >= TEN_TABLE;
     case JUDGE:
         return outcome == 0 || outcome == 3 || outcome == 11 || outcome == 14 || outcome == 16 || outcome == 19 ||
                outcome >= TEN_TABLE;
@@ -1062,6 +1065,13 @@ enum sight {
     COVER_NEVER,
     COVER_LEFT_LATER,
     OFFICE_READ,
+    WHY_NO_LATCH,
+    WHY_ONE_LATCH,
+    WHY_MANY,
+    WHY_FORGETS,
+    WHY_DEEP,
+    WHY_LIT,
+    WHY_DARK,
     SIGHTS
 };
 
@@ -1095,6 +1105,13 @@ static const char *const sight_names[SIGHTS] = {
     "covers accepted with a lamp that never lights",
     "covers refused with 18 for a later cube than cube 0",
     "texts read whose lines end in bytes 13 and 10",
+    "lamps explained by no latch",
+    "lamps explained by one latch",
+    "lamps explained by ten latches or more",
+    "lamps explained by fewer latches than were known",
+    "lamps explained through 1,000 gates or more",
+    "lamps explained that are lit",
+    "lamps explained that are dark",
 };
 
 static uint64_t seen[SIGHTS];
@@ -1736,13 +1753,157 @@ static void try_judge(circuit *c)
     see_judge(counts, kind, &hand.library);
 }
 
+/* ---- why ---- */
+
+/* Gates one on the other: each has the one before it, as it is or inverted, and beside it the constant, a latch, or the same
+ * once more, so that it is shared and only marks keep the way short. All stand on one latch or switch, and so does lamp 0. */
+static void make_deep_circuit(circuit *c)
+{
+    size_t gates = chance(30) ? GATES_CEILING : between(1, 2000), kind = below(3);
+    unsigned inverted_percent = (unsigned)ONE_OF(0, 50, 100);
+    c->counts = (chudravik_counts){below(3), between(1, 9), 0, 0};
+    size_t last = perhaps_inverted(chance(10) ? some_switch(c) : latch_literal(c, below(c->counts.latches)));
+    while (c->counts.gates < gates) {
+        size_t from = last ^ (chance(inverted_percent) ? 1 : 0);
+        size_t beside = kind == 0 ? 1 : kind == 1 ? from : latch_literal(c, below(c->counts.latches));
+        last = add_gate(c, from, chance(97) ? beside : 1);
+    }
+    for (size_t i = 0; i < c->counts.latches; i++)
+        c->next[i] = literal_below(top_literal(c) + 1);
+    set_resets(c);
+    c->counts.lamps = between(1, 3);
+    set_random_lamps(c);
+    c->lamp[0] = (uint16_t)perhaps_inverted(last);
+}
+
+/* A lamp that is lit where all latches are as they stand in some state: one gate for each, on the one before it. */
+static void make_wide_circuit(circuit *c)
+{
+    size_t last = 1;
+    c->counts = (chudravik_counts){below(3), between(10, 60), 1, 0};
+    for (size_t i = 0; i < c->counts.latches; i++) {
+        c->next[i] = (uint16_t)latch_literal(c, i);
+        c->operand[i][0] = (uint16_t)last;
+        c->operand[i][1] = (uint16_t)latch_literal(c, i);
+        c->counts.gates++;
+        last = gate_literal(c, i);
+    }
+    set_resets(c);
+    c->lamp[0] = (uint16_t)perhaps_inverted(last);
+}
+
+/* Each latch as it stands in this state; the constant where it is not known. */
+static void fit_to_state(circuit *c, const uint8_t *state)
+{
+    for (size_t i = 0; i < c->counts.latches; i++) {
+        unsigned pair = pair_at(state, i);
+        c->operand[i][1] = (uint16_t)(pair == 0 ? 1 : latch_literal(c, i) + (pair == 1));
+    }
+}
+
+/* Some lamps are the constant, a switch or a latch. */
+static void set_plain_lamps(circuit *c)
+{
+    for (size_t i = 0; i < c->counts.lamps; i++)
+        if (chance(10))
+            c->lamp[i] = (uint16_t)below(2);
+        else if (chance(10))
+            c->lamp[i] = (uint16_t)perhaps_inverted(some_switch(c));
+        else if (chance(10) && c->counts.latches > 0)
+            c->lamp[i] = (uint16_t)perhaps_inverted(latch_literal(c, below(c->counts.latches)));
+}
+
+static size_t lamp_handed(const circuit *c)
+{
+    size_t lamps = c->counts.lamps, lamp = below(lamps);
+    if (!troubled())
+        return lamp;
+    return ONE_OF(lamps, lamps, lamps + 1, lamp + 65536, lamp + ((size_t)1 << 32), (size_t)1 << 63, SIZE_MAX, LAMPS_CEILING,
+                  LAMPS_CEILING - 1, draw());
+}
+
+static size_t known_fields(const uint8_t *record, size_t fields)
+{
+    size_t known = 0;
+    for (size_t i = 0; i < fields; i++)
+        known += pair_at(record, i) != 0;
+    return known;
+}
+
+/* By the simulator's tick, with all switches X. */
+static unsigned lamp_in(chudravik_counts counts, const uint8_t *state, size_t lamp)
+{
+    uint8_t next[LATCHES_CEILING], lamps[LAMPS_CEILING], switches[INPUTS_CEILING] = {0};
+    if (simulate_tick(counts, library_table(&hand), table_words(&hand), state, record_bytes(counts.latches), switches,
+                      sizeof switches, next, sizeof next, lamps, sizeof lamps) != 0)
+        fail("the simulator refuses a tick of what was explained");
+    return pair_at(lamps, lamp);
+}
+
+/* From the answer alone the lamp has the same value, and the answer only forgets. */
+static void must_explain(chudravik_counts counts, size_t lamp)
+{
+    const uint8_t *state = of_library(&hand, STATE), *why = of_library(&hand, REASON);
+    unsigned value = lamp_in(counts, state, lamp);
+    if (value == 0 || lamp_in(counts, why, lamp) != value)
+        fail("from the answer alone lamp %zu has another value", lamp);
+    for (size_t i = 0; i < counts.latches; i++)
+        if (pair_at(why, i) != 0 && pair_at(why, i) != pair_at(state, i))
+            fail("latch %zu is known in the answer, and not so in what was given", i);
+    size_t known = known_fields(why, counts.latches);
+    see(WHY_NO_LATCH, known == 0);
+    see(WHY_ONE_LATCH, known == 1);
+    see(WHY_MANY, known >= 10);
+    see(WHY_FORGETS, known < known_fields(state, counts.latches));
+    see(value == 2 ? WHY_LIT : WHY_DARK, true);
+}
+
+/* Of a call that gave 10, so the counts are within their ceilings. */
+static size_t ten_of_why(chudravik_counts counts)
+{
+    if (table_words(&hand) < words_of(counts))
+        return TEN_TABLE;
+    return bytes_of(STATE) < record_bytes(counts.latches) ? TEN_GIVEN : TEN_RESULT;
+}
+
+static void try_why(circuit *c)
+{
+    bool deep = chance(15), wide = !deep && chance(10);
+    if (deep)
+        make_deep_circuit(c);
+    else if (wide)
+        make_wide_circuit(c);
+    else
+        make_circuit(c, 30);
+    if (!deep && !wide) {
+        mostly_give_lamp(c);
+        set_plain_lamps(c);
+    }
+    size_t lamp = deep && chance(80) ? 0 : lamp_handed(c);
+    chudravik_counts counts = handed_counts(c);
+    size_t latches = fields_for(counts.latches, c->counts.latches, LATCHES_CEILING);
+    twice_begin(&hand, WHY, counts, (numbers){.lamp = lamp});
+    lend_record(STATE, latches);
+    if (wide && latches == c->counts.latches)
+        fit_to_state(c, twice_content(&hand, STATE));
+    lend_table(c);
+    lend_noise(REASON, length_for(record_bytes(latches)));
+    make_call();
+    note(WHY, hand.library.number, hand.library.number == 10 ? ten_of_why(counts) : TEN_TABLE);
+    see_size(hand.library.number, counts);
+    if (hand.library.number != 0)
+        return;
+    must_explain(counts, lamp);
+    see(WHY_DEEP, deep && lamp == 0 && c->counts.gates >= 1000);
+}
+
 static void try_call(uint64_t number)
 {
     static circuit c;
     number_in_hand = number;
     throw_dice(seed, number);
     set_trouble();
-    size_t roll = below(100);
+    size_t roll = below(110);
     if (roll < 28)
         try_read(&c);
     else if (roll < 38)
@@ -1755,8 +1916,10 @@ static void try_call(uint64_t number)
         try_chain(&c);
     else if (roll < 88)
         try_judge(&c);
-    else
+    else if (roll < 100)
         try_cover(&c);
+    else
+        try_why(&c);
 }
 
 /* ---- at the end ---- */

@@ -181,11 +181,23 @@ static void lay_cover(twice *t, string_rest *rest)
     give_bytes(t, rest, CUBES, cubes_bytes);
 }
 
+static void lay_why(twice *t, string_rest *rest)
+{
+    chudravik_counts counts = take_counts(rest);
+    size_t table_bytes = take_words_bytes(rest);
+    twice_begin(t, WHY, counts, (numbers){.lamp = take_number(rest)});
+    size_t state_bytes = take_length(rest);
+    lend_bytes(t, rest, REASON, take_length(rest));
+    give_table(t, rest, table_bytes);
+    give_bytes(t, rest, STATE, state_bytes);
+}
+
 typedef void layer(twice *t, string_rest *rest);
 
 static layer *layer_of(uint8_t first)
 {
-    static layer *const older[] = {lay_read, lay_write, lay_tick, lay_run}, *const newer[] = {lay_read_any, lay_judge};
+    static layer *const older[] = {lay_read, lay_write, lay_tick, lay_run};
+    static layer *const newer[] = {lay_read_any, lay_judge, lay_why};
     if (first >> 4 != 0)
         return newer[((first >> 4) - 1) % (sizeof newer / sizeof newer[0])];
     return first & 8 ? lay_cover : older[first & 3];

@@ -94,11 +94,23 @@ static int covers(chudravik_counts counts)
            left.number == CHUDRAVIK_NEXT_NOT_COVERED && left.cube == 0 && none.number == CHUDRAVIK_START_NOT_COVERED;
 }
 
+/* Both latches are 0: the gate's first operand, latch 1, is enough. There is one lamp, and with nothing known it is open. */
+static int explains(chudravik_counts counts)
+{
+    const uint8_t dark = CHUDRAVIK_LOW << 6 | CHUDRAVIK_LOW << 4, open = 0;
+    uint8_t why = 0xFF;
+    return chudravik_why(counts, table, CHUDRAVIK_MOST_TABLE_WORDS, &dark, 1, 0, &why, 1) == CHUDRAVIK_ACCEPTED &&
+           CHUDRAVIK_FIELD(&why, 0) == CHUDRAVIK_UNKNOWN && CHUDRAVIK_FIELD(&why, 1) == CHUDRAVIK_LOW &&
+           chudravik_why(counts, table, CHUDRAVIK_MOST_TABLE_WORDS, &dark, 1, 1, &why, 1) == CHUDRAVIK_NO_SUCH_LAMP &&
+           chudravik_why(counts, table, CHUDRAVIK_MOST_TABLE_WORDS, &open, 1, 0, &why, 1) == CHUDRAVIK_LAMP_UNKNOWN &&
+           CHUDRAVIK_WHY_STACK > CHUDRAVIK_MOST_STACK;
+}
+
 int main(void)
 {
     chudravik_counts counts;
     if (!version_agrees() || !reads(&counts) || !reads_any(counts) || !writes_back(counts) || !ticks(counts) ||
-        !chains(counts) || !judges(counts) || !covers(counts)) {
+        !chains(counts) || !judges(counts) || !covers(counts) || !explains(counts)) {
         fputs("header: not as it must be\n", stderr);
         return 1;
     }

@@ -516,6 +516,97 @@ chudravik_cover_answer plain_cover(chudravik_counts counts, const uint16_t *tabl
     return (chudravik_cover_answer){CHUDRAVIK_ACCEPTED, 0};
 }
 
+/* ---- why ---- */
+
+/* What is asked of, and the variables that were. */
+typedef struct {
+    const uint16_t *gates;
+    size_t first_gate;
+    const uint8_t *values;
+    bool marks[CHUDRAVIK_MOST_VARIABLES + 1];
+} question;
+
+static void why_one(question *q, uint16_t x);
+
+/* "For a gate at 0 the first operand is followed if it is 0, otherwise the second." "An inverted literal turns the question
+ * round" */
+static void why_zero(question *q, uint16_t x)
+{
+    if (x % 2 != 0) {
+        why_one(q, (uint16_t)(x - 1));
+        return;
+    }
+    size_t v = x / 2;
+    if (q->marks[v]) {
+        return;
+    }
+    q->marks[v] = true;
+    if (v >= q->first_gate) {
+        const uint16_t *gate = q->gates + 2 * (v - q->first_gate);
+        why_zero(q, literal(q->values, gate[0]) == CHUDRAVIK_LOW ? gate[0] : gate[1]);
+    }
+}
+
+/* "For a gate at 1 both operands are followed." */
+static void why_one(question *q, uint16_t x)
+{
+    if (x % 2 != 0) {
+        why_zero(q, (uint16_t)(x - 1));
+        return;
+    }
+    size_t v = x / 2;
+    if (q->marks[v]) {
+        return;
+    }
+    q->marks[v] = true;
+    if (v >= q->first_gate) {
+        const uint16_t *gate = q->gates + 2 * (v - q->first_gate);
+        why_one(q, gate[0]);
+        why_one(q, gate[1]);
+    }
+}
+
+uint32_t plain_why(chudravik_counts counts, const uint16_t *table, size_t table_words, const uint8_t *state,
+                   size_t state_bytes, size_t lamp, uint8_t *why, size_t why_bytes)
+{
+    uint32_t number = circuit_refusal(&counts, table, table_words);
+    if (number != CHUDRAVIK_ACCEPTED) {
+        return number;
+    }
+    if (state_bytes < record_length(counts.latches)) {
+        return CHUDRAVIK_TOO_SHORT;
+    }
+    if (!sound(state, counts.latches)) {
+        return CHUDRAVIK_RECORD;
+    }
+    if (lamp >= counts.lamps) {
+        return CHUDRAVIK_NO_SUCH_LAMP;
+    }
+    uint8_t values[VALUE_BYTES] = {CHUDRAVIK_LOW << 6};
+    settle_state(&counts, table, state, values);
+    uint16_t x = lamps_of(&counts, table)[lamp];
+    uint8_t value = literal(values, x);
+    if (value == CHUDRAVIK_UNKNOWN) {
+        return CHUDRAVIK_LAMP_UNKNOWN;
+    }
+    if (why_bytes < record_length(counts.latches)) {
+        return CHUDRAVIK_TOO_SHORT;
+    }
+    question q = {.gates = gates_of(&counts, table), .first_gate = 1 + counts.inputs + counts.latches, .values = values};
+    if (value == CHUDRAVIK_HIGH) {
+        why_one(&q, x);
+    } else {
+        why_zero(&q, x);
+    }
+    memset(why, 0, record_length(counts.latches));
+    for (size_t i = 0; i < counts.latches; i++) {
+        if (q.marks[1 + counts.inputs + i]) {
+            why[i / 4] |= (uint8_t)(CHUDRAVIK_FIELD(state, i) << (6 - 2 * (i % 4)));
+        }
+    }
+    return CHUDRAVIK_ACCEPTED;
+}
+
 /* ---- the reader ---- */
 
 static bool digit_at(const uint8_t *at, const uint8_t *end)

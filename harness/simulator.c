@@ -858,3 +858,61 @@ chudravik_cover_answer simulate_cover(chudravik_counts counts, const uint16_t *t
     free(sent.field);
     return answer;
 }
+
+/* ---- why ---- */
+
+/* The variables that a lamp's value is followed to, from the greatest down: a gate's operands are below it. */
+static void follow_down(const circuit *c, asking *a, size_t lamp, bool *reached)
+{
+    size_t first = 1 + c->inputs + c->latches;
+    reached[lamp / 2] = true;
+    for (size_t variable = variables(c); variable >= first; variable--) {
+        if (!reached[variable])
+            continue;
+        gate g = c->gate[variable - first];
+        if (ask(a, 2 * variable) == KNOWN_1)
+            reached[g.left / 2] = reached[g.right / 2] = true;
+        else
+            reached[(ask(a, g.left) == KNOWN_0 ? g.left : g.right) / 2] = true;
+    }
+}
+
+/* Whether the lamp is known; if so only the latches reached are left known. */
+static bool explain(const circuit *c, size_t lamp, value *state)
+{
+    static const value switches[INPUTS_CEILING];
+    bool reached[1 + VARIABLES_CEILING] = {false};
+    asking a = {.circuit = c, .state = state, .switches = switches};
+    memset(a.known, NOT_ASKED, sizeof a.known);
+    a.known[0] = KNOWN_0;
+    if (ask(&a, lamp) == UNKNOWN)
+        return false;
+    follow_down(c, &a, lamp, reached);
+    for (size_t i = 0; i < c->latches; i++)
+        if (!reached[1 + c->inputs + i])
+            state[i] = UNKNOWN;
+    return true;
+}
+
+uint32_t simulate_why(chudravik_counts counts, const uint16_t *table, size_t table_words, const uint8_t *state,
+                      size_t state_bytes, size_t lamp, uint8_t *why, size_t why_bytes)
+{
+    circuit c;
+    value known[LATCHES_CEILING];
+    uint32_t refusal = take_circuit(&c, counts, table, table_words);
+    if (refusal != 0)
+        return refusal;
+    if (state_bytes < record_length(c.latches))
+        return 10;
+    if (!good_record(state, c.latches))
+        return 14;
+    if (lamp >= c.lamps)
+        return 23;
+    unpack(state, known, c.latches);
+    if (!explain(&c, c.lamp[lamp], known))
+        return 24;
+    if (why_bytes < record_length(c.latches))
+        return 10;
+    pack(known, c.latches, why);
+    return 0;
+}

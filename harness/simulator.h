@@ -23,6 +23,9 @@ chudravik_judge_answer simulate_judge(chudravik_counts counts, const uint16_t *t
                                       const uint8_t *cubes, size_t cubes_bytes, size_t n, size_t j, uint8_t *verdict,
                                       size_t verdict_bytes, uint8_t *settled, size_t settled_bytes);
 
+uint32_t simulate_why(chudravik_counts counts, const uint16_t *table, size_t table_words, const uint8_t *state,
+                      size_t state_bytes, size_t lamp, uint8_t *why, size_t why_bytes);
+
 chudravik_cover_answer simulate_cover(chudravik_counts counts, const uint16_t *table, size_t table_words,
                                       const uint8_t *cubes, size_t cubes_bytes, size_t n, uint8_t *verdict,
                                       size_t verdict_bytes);

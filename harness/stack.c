@@ -1,6 +1,7 @@
 /* How much stack each call takes: it must be under the figure of include/chudravik.h, and that below 4 KiB. A call's frames
  * have a fixed size, so that no circuit should matter; measured are the largest circuit that the ceilings allow, the
- * smallest, and on the largest the refusals that come last. Each call runs on a stack of its own that was filled with a
+ * smallest, and on the largest the refusals that come last. A why goes down from gate to gate, and is measured on the
+ * deepest circuits. Each call runs on a stack of its own that was filled with a
  * pattern.
  *
  * stack
@@ -86,6 +87,11 @@ static void call_cover(void)
                  .number;
 }
 
+static void call_why(void)
+{
+    number = chudravik_why(counts, table, CHUDRAVIK_MOST_TABLE_WORDS, latches, sizeof latches, 0, settled, sizeof settled);
+}
+
 /* A shift register with gates on its way: the chain goes through many cubes, and closes. */
 static void make_circuit(void)
 {
@@ -101,6 +107,20 @@ static void make_circuit(void)
         table[at] = (uint16_t)(first_gate + 2 * i - 1);
         table[at + 1] = (uint16_t)(first_latch + 2 * (i % counts.latches));
     }
+}
+
+/* The deepest: each gate has the one before it, or its inverse, as its first operand or its second, and the constant beside
+ * it; the first gate has a latch. */
+static void make_deep_circuit(size_t inverted, size_t place)
+{
+    size_t first_latch = 2 * (1 + counts.inputs), first_gate = first_latch + 2 * counts.latches;
+    memset(table, 0, sizeof table);
+    for (size_t i = 0; i < counts.gates; i++) {
+        size_t at = 2 * counts.latches + counts.lamps + 2 * i;
+        table[at + place] = (uint16_t)((i == 0 ? first_latch : first_gate + 2 * (i - 1)) + inverted);
+        table[at + 1 - place] = 1;
+    }
+    table[2 * counts.latches] = (uint16_t)(first_gate + 2 * (counts.gates - 1) + inverted);
 }
 
 static size_t stack_of(void (*call)(void))
@@ -132,7 +152,8 @@ static const named_call WRITE = {"write", call_write, CHUDRAVIK_MOST_STACK},
                         TICK = {"tick", call_tick, CHUDRAVIK_MOST_STACK},
                         CHAIN = {"chain", call_chain, CHUDRAVIK_MOST_STACK},
                         JUDGE = {"judge", call_judge, CHUDRAVIK_MOST_STACK},
-                        COVER = {"cover", call_cover, CHUDRAVIK_MOST_STACK};
+                        COVER = {"cover", call_cover, CHUDRAVIK_MOST_STACK},
+                        WHY = {"why", call_why, CHUDRAVIK_WHY_STACK};
 static size_t nothing;
 
 /* Whether the call gives this number, and takes no more stack than it may. */
@@ -149,7 +170,8 @@ static int accepted(const char *what)
     return measured(WRITE, what, CHUDRAVIK_ACCEPTED) & measured(READ, what, CHUDRAVIK_ACCEPTED) &
            measured(READ_ANY, what, CHUDRAVIK_ACCEPTED) &
            measured(TICK, what, CHUDRAVIK_ACCEPTED) & measured(CHAIN, what, CHUDRAVIK_ACCEPTED) &
-           measured(JUDGE, what, CHUDRAVIK_ACCEPTED) & measured(COVER, what, CHUDRAVIK_ACCEPTED);
+           measured(JUDGE, what, CHUDRAVIK_ACCEPTED) & measured(COVER, what, CHUDRAVIK_ACCEPTED) &
+           measured(WHY, what, counts.latches == 0 ? CHUDRAVIK_ACCEPTED : CHUDRAVIK_LAMP_UNKNOWN);
 }
 
 static int refused(const char *what)
@@ -169,6 +191,22 @@ static int refused(const char *what)
     return passed;
 }
 
+/* On all of the deepest circuits, dark and lit. */
+static int explained(void)
+{
+    static const char *const what[2][2] = {{"through first operands", "through second operands"},
+                                           {"through inverted first operands", "through inverted second operands"}};
+    int passed = 1;
+    for (size_t inverted = 0; inverted < 2; inverted++)
+        for (size_t place = 0; place < 2; place++)
+            for (unsigned value = CHUDRAVIK_LOW; value <= CHUDRAVIK_HIGH; value++) {
+                make_deep_circuit(inverted, place);
+                latches[0] = (uint8_t)(value << 6);
+                passed &= measured(WHY, what[inverted][place], CHUDRAVIK_ACCEPTED);
+            }
+    return passed;
+}
+
 int main(void)
 {
     int passed;
@@ -179,5 +217,6 @@ int main(void)
     make_circuit();
     passed &= accepted("on the largest circuit");
     passed &= refused("refused");
+    passed &= explained();
     return passed ? 0 : 1;
 }

@@ -6,9 +6,10 @@
 #include <stdlib.h>
 #include <string.h>
 
-const char *const call_names[CALLS] = {"read", "read_any", "write", "tick", "chain", "judge", "cover"};
+const char *const call_names[CALLS] = {"read", "read_any", "write", "tick", "chain", "judge", "cover", "why"};
 const char *const role_names[ROLES] = {"text",  "table", "list",    "state",  "switches",
-                                       "next",  "lamps", "cubes",   "verdict", "settled"};
+                                       "next",  "lamps", "cubes",   "verdict", "settled",
+                                       "why"};
 
 /* ---- buffers ---- */
 
@@ -211,16 +212,30 @@ static answer simulator_covers(const twice *t)
     return (answer){.number = cover.number, .cube = cover.cube};
 }
 
+static answer library_explains(const twice *t)
+{
+    uint32_t number = chudravik_why(t->counts, library_table(t), table_words(t), of_library(t, STATE), bytes_of(t, STATE),
+                                    t->with.lamp, of_library(t, REASON), bytes_of(t, REASON));
+    return (answer){.number = number};
+}
+
+static answer simulator_explains(const twice *t)
+{
+    uint32_t number = simulate_why(t->counts, simulator_table(t), table_words(t), of_simulator(t, STATE),
+                                   bytes_of(t, STATE), t->with.lamp, of_simulator(t, REASON), bytes_of(t, REASON));
+    return (answer){.number = number};
+}
+
 typedef answer call_of(const twice *t);
 
 static call_of *const by_library[CALLS] = {
     [READ] = library_reads,   [READ_ANY] = library_reads_any, [WRITE] = library_writes, [TICK] = library_ticks,
-    [CHAIN] = library_chains, [JUDGE] = library_judges,       [COVER] = library_covers,
+    [CHAIN] = library_chains, [JUDGE] = library_judges,       [COVER] = library_covers, [WHY] = library_explains,
 };
 static call_of *const by_simulator[CALLS] = {
     [READ] = simulator_reads,   [READ_ANY] = simulator_reads_any, [WRITE] = simulator_writes,
     [TICK] = simulator_ticks,   [CHAIN] = simulator_chains,       [JUDGE] = simulator_judges,
-    [COVER] = simulator_covers,
+    [COVER] = simulator_covers, [WHY] = simulator_explains,
 };
 
 /* ---- what is compared ---- */
@@ -315,8 +330,9 @@ static void show_buffer(const char *name, const lent *l)
 
 void twice_show(const twice *t)
 {
-    fprintf(stderr, "  call %s, I %zu, L %zu, O %zu, A %zu, w %zu, n %zu, j %zu\n", call_names[t->call],
-            t->counts.inputs, t->counts.latches, t->counts.lamps, t->counts.gates, t->with.w, t->with.n, t->with.j);
+    fprintf(stderr, "  call %s, I %zu, L %zu, O %zu, A %zu, w %zu, n %zu, j %zu, lamp %zu\n", call_names[t->call],
+            t->counts.inputs, t->counts.latches, t->counts.lamps, t->counts.gates, t->with.w, t->with.n, t->with.j,
+            t->with.lamp);
     for (size_t role = 0; role < ROLES; role++)
         if (t->lent[role].used)
             show_buffer(role_names[role], &t->lent[role]);

@@ -9,9 +9,9 @@
 #include "guarded.h"
 #include "simulator.h"
 
-enum call { READ, READ_ANY, WRITE, TICK, CHAIN, JUDGE, COVER, CALLS };
+enum call { READ, READ_ANY, WRITE, TICK, CHAIN, JUDGE, COVER, WHY, CALLS };
 
-enum role { TEXT, TABLE, LIST, STATE, SWITCHES, NEXT, LAMPS, CUBES, VERDICT, SETTLED, ROLES };
+enum role { TEXT, TABLE, LIST, STATE, SWITCHES, NEXT, LAMPS, CUBES, VERDICT, SETTLED, REASON, ROLES };
 
 extern const char *const call_names[CALLS];
 extern const char *const role_names[ROLES];
@@ -50,6 +50,7 @@ typedef struct {
     size_t w;
     size_t n;
     size_t j;
+    size_t lamp;
 } numbers;
 
 typedef struct {

@@ -6,7 +6,7 @@
  * A buffer is a pointer and a length: in bytes, and for a table in 16-bit words. Nothing beyond a buffer's length is
  * read or written, and no call allocates, keeps a pointer, or touches anything else. A buffer of length 0 may be a null
  * pointer. A call takes at most CHUDRAVIK_MOST_STACK bytes of stack, whatever it is given, unless it says otherwise
- * below (chudravik_read_any). (Null pointers and stack are tested, not proved.)
+ * below (chudravik_read_any, chudravik_why). (Null pointers and stack are tested, not proved.)
  *
  * Calls are safe in parallel, from any threads: they share nothing. Calls that run at the same time may be given the
  * same buffer; one that a call fills is that call's alone while it runs.
@@ -51,6 +51,7 @@ extern "C" {
 #define CHUDRAVIK_MOST_CUBE_BYTES 65536  /* the cube buffer */
 #define CHUDRAVIK_MOST_STACK 3072
 #define CHUDRAVIK_MOST_ANY_STACK 98304   /* chudravik_read_any keeps all lines until it can order them */
+#define CHUDRAVIK_WHY_STACK 393216       /* chudravik_why goes down from gate to gate: on the deepest circuit */
 
 /* ---- lengths ---- */
 
@@ -111,6 +112,8 @@ extern "C" {
 #define CHUDRAVIK_DEFINITION 20         /* a variable defined twice, or an own literal odd, below 2 or above 2M + 1 */
 #define CHUDRAVIK_UNDEFINED 21          /* a literal whose variable no line defines */
 #define CHUDRAVIK_LOOP 22               /* gates in a loop */
+#define CHUDRAVIK_NO_SUCH_LAMP 23       /* a lamp's number that is not below the count of lamps */
+#define CHUDRAVIK_LAMP_UNKNOWN 24       /* the lamp's value is X there, so no latch forces it */
 
 /* Where several apply, the first in the order named at the call is given. A refusal answers zeros beside its number and
  * changes no buffer, save 15 (chudravik_chain); 18 names a cube (chudravik_cover). */
@@ -266,6 +269,18 @@ chudravik_judge_answer chudravik_judge(chudravik_counts counts, const uint16_t *
 chudravik_cover_answer chudravik_cover(chudravik_counts counts, const uint16_t *table, size_t table_words,
                                        const uint8_t *cubes, size_t cubes_bytes, size_t n, uint8_t *verdict,
                                        size_t verdict_bytes);
+
+/* Why a lamp is dark or lit in a state, whatever the switches do: the latches that force it. state has a field for each
+ * latch, any of them X; lamps are numbered from 0, in the order of the table.
+ * A gate at 1 is followed into both operands; a gate at 0 into its first operand where that is 0, else into its second. why
+ * is a record for the latches: what state has for each that is reached, and CHUDRAVIK_UNKNOWN for the others. So it only
+ * forgets, and from it alone, all switches unknown, the lamp has the same value; in every state that agrees with it, under
+ * any switches, the lamp is as dark or lit. A constant lamp needs no latch.
+ * Refusals: 3, 10 for the table, 11, 10 for state, 14, 23, 24, 10 for why. Bytes after the record stay as they were. Answers
+ * the number.
+ * The work is linear in the gates. Takes up to CHUDRAVIK_WHY_STACK bytes of stack, by the depth of the gates. */
+uint32_t chudravik_why(chudravik_counts counts, const uint16_t *table, size_t table_words, const uint8_t *state,
+                       size_t state_bytes, size_t lamp, uint8_t *why, size_t why_bytes);
 
 #ifdef __cplusplus
 }

@@ -14,6 +14,8 @@ ghost use Rattle.cubes.specs.Judge.{Judged};
 ghost use Rattle.cubes.specs.Promise.{Closing, Promises};
 ghost use Rattle.sent.specs.Call.{Sent};
 ghost use Rattle.sent.specs.Promise.{Keeps};
+ghost use Rattle.asked.specs.Call.{Explained};
+ghost use Rattle.asked.specs.Promise.{Suffices};
 
 #[no_mangle]
 pub extern "C" fn chudravik_read(text: &[u8], table: &mut [u16]) -> ReadAnswer
@@ -92,4 +94,17 @@ pub extern "C" fn chudravik_cover(
     ensures { λ r. ⌜ Sent (record { counts = counts; table = now (table .entry); cubes = now (cubes .entry); n = n; verdict = now (verdict .entry) }) r (now (verdict .exit)) × Keeps (record { counts = counts; table = now (table .entry); cubes = now (cubes .entry); n = n; verdict = now (verdict .entry) }) r (now (verdict .exit)) ⌝ }
 {
     sent::cover(counts, table, cubes, n, verdict)
+}
+
+#[no_mangle]
+pub extern "C" fn chudravik_why(
+    counts: Counts,
+    table: &[u16],
+    state: &[u8],
+    lamp: usize,
+    why: &mut [u8],
+) -> u32
+    ensures { λ r. ⌜ Explained (record { counts = counts; table = now (table .entry); state = now (state .entry); lamp = lamp; why = now (why .entry) }) r (now (why .exit)) × Suffices (record { counts = counts; table = now (table .entry); state = now (state .entry); lamp = lamp; why = now (why .entry) }) r (now (why .exit)) ⌝ }
+{
+    why::why(counts, table, state, lamp, why)
 }

@@ -8,6 +8,7 @@
 //   chain I L O A WORDS w.. W CUBES                            the table; the interval; the length of the cubes' buffer
 //   judge I L O A WORDS w.. CUBES b.. N J VERDICT SETTLED      the table, the cubes, n, j; the lengths of the results
 //   cover I L O A WORDS w.. CUBES b.. N VERDICT                the table, the cubes, their number; the result's length
+//   why I L O A WORDS w.. STATE b.. LAMP WHY                   the table, the state, the lamp's number; the result's length
 //
 // In TEXT `/` stands for byte 10, and `\hh` for any byte; what goes beyond BYTES is cut. A list, w.. or b.., has its
 // length in front of it. Each buffer that is lent has 0xFF in every byte. In an answer equal elements that follow each
@@ -469,6 +470,63 @@ fn cover_vector(line: &[u8]) {
     cover_given(counts, given, &table, &cubes);
 }
 
+// ---- why
+
+fn show_why(counts: Counts, table: &[u16], state: &[u8], lamp: usize, why: &mut [u8]) {
+    let number = why::why(counts, table, state, lamp, why);
+    say_number(b"why number ", number as usize);
+    say_bytes(b"; why", why);
+    say(b"\n");
+}
+
+// What is given and lent, by its length, and the lamp's number.
+struct WhyGiven {
+    words: usize,
+    state: usize,
+    lamp: usize,
+    why: usize,
+}
+
+fn why_given(counts: Counts, given: WhyGiven, table: &[u16], state: &[u8]) {
+    let mut why = [UNTOUCHED; MOST_BYTES];
+    let words = words_within(given.words, table);
+    let state_bytes = bytes_within(given.state, state);
+    let why_bytes = bytes_within(given.why, &why);
+    if words < given.words || state_bytes < given.state || why_bytes < given.why {
+        too_large();
+        return;
+    }
+    show_why(
+        counts,
+        &table[..words],
+        &state[..state_bytes],
+        given.lamp,
+        &mut why[..why_bytes],
+    );
+}
+
+fn why_vector(line: &[u8]) {
+    let mut table = [0u16; MOST_WORDS];
+    let mut state = [0u8; MOST_BYTES];
+    let circuit = circuit_at(line, 4, &mut table);
+    let state_bytes = vector::next(line, circuit.behind);
+    let behind_state = vector::bytes(line, state_bytes, &mut state);
+    let lamp = vector::next(line, behind_state);
+    let why = vector::next(line, lamp);
+    if !vector::ends(line, why) {
+        not_a_vector();
+        return;
+    }
+    let given = WhyGiven {
+        words: circuit.words,
+        state: state_bytes.value,
+        lamp: lamp.value,
+        why: why.value,
+    };
+    let counts = circuit.counts;
+    why_given(counts, given, &table, &state);
+}
+
 // ---- the list
 
 // The counts, the length of the table, whose words go into the table that is lent, and where the line goes on.
@@ -516,6 +574,8 @@ fn answer(line: &[u8]) {
         judge_vector(line);
     } else if vector::opens(line, b"cover ") {
         cover_vector(line);
+    } else if vector::opens(line, b"why ") {
+        why_vector(line);
     } else {
         not_a_vector();
     }

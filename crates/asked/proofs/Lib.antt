@@ -1,0 +1,9 @@
+pub mod Leading
+pub mod Reaching
+pub mod Entries
+pub mod Same
+pub mod Forcing
+pub mod Circuits
+pub mod Refusing
+pub mod Promising
+pub mod Determined
