@@ -10,6 +10,7 @@
  *   judge I L O A WORDS w.. CUBES b.. N J VERDICT SETTLED
  *   cover I L O A WORDS w.. CUBES b.. N VERDICT
  *   why I L O A WORDS w.. STATE b.. LAMP WHY
+ *   merge FIELDS A b.. B b.. MERGED
  */
 #include "drawing.h"
 #include "simulator.h"
@@ -384,6 +385,25 @@ static void answer_why(line_rest rest)
     free(why);
 }
 
+static void answer_merge(line_rest rest)
+{
+    static uint8_t a[MOST_BYTES];
+    static uint8_t b[MOST_BYTES];
+    size_t fields = take_number(&rest);
+    size_t a_bytes = take_bytes(&rest, a);
+    size_t b_bytes = take_bytes(&rest, b);
+    size_t merged_bytes = take_number(&rest);
+    if (is_turned_away(&rest, 0, longer(merged_bytes, longer(a_bytes, b_bytes)))) {
+        return;
+    }
+    uint8_t *merged = lend(merged_bytes);
+    uint32_t number = simulate_merge(fields, a, a_bytes, b, b_bytes, merged, merged_bytes);
+    printf("merge number %u", (unsigned)number);
+    show_bytes("merged", merged, merged_bytes);
+    putchar('\n');
+    free(merged);
+}
+
 /* ---- the list ---- */
 
 static bool skip_name(line_rest *rest, const char *name)
@@ -417,6 +437,8 @@ static void answer_line(line_rest rest)
         answer_cover(rest);
     } else if (skip_name(&rest, "why")) {
         answer_why(rest);
+    } else if (skip_name(&rest, "merge")) {
+        answer_merge(rest);
     } else {
         puts("not a vector");
     }

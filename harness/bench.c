@@ -317,6 +317,9 @@ static answer of_cover(chudravik_cover_answer a)
 #define WHY(side, r, b)                                                                                         \
     of_tick(side##_why(r->counts, r->table, r->table_words, r->known, r->known_bytes, r->lamp, b->settled,      \
                        r->settled_bytes))
+#define MERGE(side, r, b)                                                                                       \
+    of_tick(side##_merge(r->counts.latches, r->state, r->state_bytes, r->known, r->known_bytes, b->settled,     \
+                         r->settled_bytes))
 #define SIDE(name, CALL, side)                                                                                  \
     static answer name(const request *r, buffers *b)                                                            \
     {                                                                                                           \
@@ -330,6 +333,7 @@ SIDE(library_chain, CHAIN, chudravik)
 SIDE(library_judge, JUDGE, chudravik)
 SIDE(library_cover, COVER, chudravik)
 SIDE(library_why, WHY, chudravik)
+SIDE(library_merge, MERGE, chudravik)
 SIDE(c_read, READ, plain)
 SIDE(c_write, WRITE, plain)
 SIDE(c_tick, TICK, plain)
@@ -337,6 +341,7 @@ SIDE(c_chain, CHAIN, plain)
 SIDE(c_judge, JUDGE, plain)
 SIDE(c_cover, COVER, plain)
 SIDE(c_why, WHY, plain)
+SIDE(c_merge, MERGE, plain)
 
 /* Both calls of a run: the chain, and the judge of what it left. */
 #define RUN(name, side)                                                                                         \
@@ -368,6 +373,7 @@ static const pair JUDGING = {"judge", library_judge, c_judge};
 static const pair RUNNING = {"both", library_run, c_run};
 static const pair COVERING = {"cover", library_cover, c_cover};
 static const pair ASKING = {"why", library_why, c_why};
+static const pair MERGING = {"merge", library_merge, c_merge};
 
 /* ---- equal answers ---- */
 
@@ -551,6 +557,25 @@ static void check_questions(const request *sound)
     expect(&ASKING, &r, CHUDRAVIK_NO_SUCH_LAMP);
 }
 
+static void check_merges(const request *sound)
+{
+    static request r;
+    r = *sound;
+    r.state_bytes = 0;
+    expect(&MERGING, &r, CHUDRAVIK_TOO_SHORT);
+    r = *sound;
+    r.known_bytes = 0;
+    expect(&MERGING, &r, CHUDRAVIK_TOO_SHORT);
+    r = *sound;
+    r.settled_bytes = 0;
+    expect(&MERGING, &r, CHUDRAVIK_TOO_SHORT);
+    r.known[0] |= 0xC0;
+    expect(&MERGING, &r, CHUDRAVIK_RECORD);
+    r = *sound;
+    r.counts.latches = CHUDRAVIK_MOST_FIELDS + 1;
+    expect(&MERGING, &r, CHUDRAVIK_COUNTS);
+}
+
 /* ---- times ---- */
 
 static double now(void)
@@ -632,6 +657,11 @@ static double words_of_table(size_t i)
     return (double)CHUDRAVIK_TABLE_WORDS(c->latches, c->lamps, c->gates);
 }
 
+static double bytes_of_record(size_t i)
+{
+    return (double)CHUDRAVIK_RECORD_BYTES(requests[i].counts.latches);
+}
+
 static double words_times_cubes(size_t i)
 {
     return words_of_table(i) * (double)runs[i].numbers[1];
@@ -662,6 +692,7 @@ static void check_all(void)
         runs[i] = expect(&RUNNING, &requests[i], CHUDRAVIK_ACCEPTED);
         expect(&COVERING, &requests[i], CHUDRAVIK_ACCEPTED);
         expect(&ASKING, &requests[i], CHUDRAVIK_ACCEPTED);
+        expect(&MERGING, &requests[i], CHUDRAVIK_ACCEPTED);
         print_circuit(i);
     }
     make_deepest(&requests[CIRCUITS - 1], &deepest);
@@ -677,6 +708,7 @@ static void check_all(void)
     check_chains(&requests[0]);
     check_covers(&requests[0]);
     check_questions(&requests[0]);
+    check_merges(&requests[0]);
     printf("equal answers and bytes from both sides\n\n");
 }
 
@@ -733,6 +765,7 @@ int main(int argc, char **argv)
     report(&ASKING, requests, CIRCUITS, words_of_table, "words of table", rounds, NULL);
     times deep = measure(&ASKING, &deepest, rounds);
     printf("%-6s %-8s %12.1f %12.1f %7.3f\n", ASKING.name, "deepest", deep.library, deep.plain, deep.library / deep.plain);
+    report(&MERGING, requests, CIRCUITS, bytes_of_record, "bytes of record", rounds, NULL);
     printf("\nwith a lamp added, the judge alone for both calls:");
     for (size_t i = 0; i < CIRCUITS; i++) {
         printf(" %s %.2f", PLANS[i].name, judge[i] / both[i]);

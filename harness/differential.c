@@ -1017,6 +1017,8 @@ static bool can_give(enum call call, size_t outcome)
     case WHY:
         return outcome == 0 || outcome == 3 || outcome == 11 || outcome == 14 || outcome == 23 || outcome == 24 ||
                outcome >= TEN_TABLE;
+    case MERGE:
+        return outcome == 0 || outcome == 3 || outcome == 14 || outcome == TEN_GIVEN || outcome == TEN_RESULT;
     case JUDGE:
         return outcome == 0 || outcome == 3 || outcome == 11 || outcome == 14 || outcome == 16 || outcome == 19 ||
                outcome >= TEN_TABLE;
@@ -1072,6 +1074,9 @@ enum sight {
     WHY_DEEP,
     WHY_LIT,
     WHY_DARK,
+    MERGE_ALIKE,
+    MERGE_NOTHING,
+    MERGE_LONGEST,
     SIGHTS
 };
 
@@ -1112,6 +1117,9 @@ static const char *const sight_names[SIGHTS] = {
     "lamps explained through 1,000 gates or more",
     "lamps explained that are lit",
     "lamps explained that are dark",
+    "merges of a record with itself",
+    "merges that leave nothing known of what both know",
+    "merges of 512 fields",
 };
 
 static uint64_t seen[SIGHTS];
@@ -1710,6 +1718,23 @@ static size_t back_handed(const cover *sent, size_t j)
                   SIZE_MAX, SIZE_MAX / sent->record + 1 + j, (size_t)1 << 63, draw());
 }
 
+/* The settled record is the merge of the cubes from j on. */
+static void must_be_merged(chudravik_counts counts)
+{
+    uint8_t merged[LATCHES_CEILING];
+    size_t record = record_bytes(counts.latches);
+    const uint8_t *cubes = of_library(&hand, CUBES);
+    memcpy(merged, cubes + hand.with.j * record, record);
+    for (size_t k = hand.with.j; k < hand.with.n; k++) {
+        uint8_t before[LATCHES_CEILING];
+        memcpy(before, merged, record);
+        if (chudravik_merge(counts.latches, before, record, cubes + k * record, record, merged, record) != 0)
+            fail("the library refuses to merge cube %zu", k);
+    }
+    if (memcmp(merged, of_library(&hand, SETTLED), record) != 0)
+        fail("the settled record is not the merge of the cubes from j on");
+}
+
 static void see_judge(chudravik_counts counts, enum kind kind, const answer *made)
 {
     static const enum sight judged[KINDS] = {JUDGED_OWN, JUDGED_WITH_LAMP, JUDGED_UNROLLED, JUDGED_BLURRED};
@@ -1751,6 +1776,8 @@ static void try_judge(circuit *c)
     note(JUDGE, hand.library.number, hand.library.number == 10 ? ten_of_cubes(counts) : TEN_TABLE);
     see_size(hand.library.number, counts);
     see_judge(counts, kind, &hand.library);
+    if (hand.library.number == 0)
+        must_be_merged(counts);
 }
 
 /* ---- why ---- */
@@ -1897,13 +1924,111 @@ static void try_why(circuit *c)
     see(WHY_DEEP, deep && lamp == 0 && c->counts.gates >= 1000);
 }
 
+/* ---- merge ---- */
+
+static void merge_into(uint8_t *merged, size_t fields, const uint8_t *a, const uint8_t *b)
+{
+    size_t record = record_bytes(fields);
+    uint32_t number = chudravik_merge(fields, a, record, b, record, merged, record);
+    if (number != 0)
+        fail("a merge of sound records is refused, with %" PRIu32, number);
+}
+
+static void make_record(uint8_t *record, size_t fields, unsigned unknown_percent)
+{
+    memset(record, 0, record_bytes(fields));
+    for (size_t i = 0; i < fields; i++)
+        set_pair(record, i, chance(unknown_percent) ? 0 : between(1, 2));
+}
+
+static bool covers(const uint8_t *cube, const uint8_t *inside, size_t fields)
+{
+    for (size_t i = 0; i < fields; i++)
+        if (pair_at(cube, i) != 0 && pair_at(cube, i) != pair_at(inside, i))
+            return false;
+    return true;
+}
+
+/* The laws, on records as the call leaves them, with some third record. */
+static void must_keep_laws(size_t fields)
+{
+    uint8_t third[LATCHES_CEILING], left[LATCHES_CEILING], right[LATCHES_CEILING], unknown[LATCHES_CEILING] = {0};
+    const uint8_t *a = of_library(&hand, ONE), *b = of_library(&hand, OTHER), *ab = of_library(&hand, MERGED);
+    size_t record = record_bytes(fields);
+    make_record(third, fields, (unsigned)ONE_OF(0, 10, 50));
+    merge_into(left, fields, b, a);
+    if (memcmp(left, ab, record) != 0)
+        fail("order makes a difference to a merge");
+    merge_into(left, fields, ab, third);
+    merge_into(right, fields, b, third);
+    uint8_t grouped[LATCHES_CEILING];
+    merge_into(grouped, fields, a, right);
+    if (memcmp(left, grouped, record) != 0)
+        fail("grouping makes a difference to a merge");
+    merge_into(left, fields, ab, a);
+    merge_into(right, fields, a, a);
+    if (memcmp(left, ab, record) != 0 || memcmp(right, a, record) != 0)
+        fail("repetition makes a difference to a merge");
+    merge_into(left, fields, unknown, a);
+    if (memcmp(left, unknown, record) != 0)
+        fail("a record of X alone does not swallow another");
+    if (!covers(ab, a, fields) || !covers(ab, b, fields))
+        fail("a merge does not cover both");
+    for (size_t i = 0; i < fields; i++) /* some cube that covers both */
+        set_pair(third, i, pair_at(a, i) == pair_at(b, i) && chance(80) ? pair_at(a, i) : 0);
+    if (!covers(third, ab, fields))
+        fail("a cube that covers both does not cover their merge");
+}
+
+static size_t some_fields(void)
+{
+    if (troubled())
+        return ONE_OF(513, 513, 514, 1024, 65536, 65536 + 4, (size_t)1 << 32, ((size_t)1 << 32) + 4, (size_t)1 << 63, SIZE_MAX,
+                      SIZE_MAX - 2, draw());
+    return ONE_OF(0, 1, 2, 3, 4, 5, 511, 512, below(20), below(513));
+}
+
+/* The other is of chance, or the one with fields changed, or the same. */
+static void lend_other(size_t fields)
+{
+    uint8_t record[LATCHES_CEILING];
+    memcpy(record, twice_content(&hand, ONE), record_bytes(fields));
+    for (size_t times = chance(30) ? 0 : between(1, 5); times > 0 && fields > 0; times--)
+        set_pair(record, below(fields), below(3));
+    if (troubled())
+        damage_record(record, fields);
+    lend_given(OTHER, record, least_of(length_for(record_bytes(fields)), record_bytes(fields)));
+}
+
+static void try_merge(void)
+{
+    size_t handed = some_fields(), fields = fields_for(handed, below(20), LATCHES_CEILING);
+    twice_begin(&hand, MERGE, (chudravik_counts){0}, (numbers){.fields = handed});
+    lend_record(ONE, fields);
+    if (chance(50))
+        lend_record(OTHER, fields);
+    else
+        lend_other(fields);
+    lend_noise(MERGED, length_for(record_bytes(fields)));
+    make_call();
+    bool given_short = bytes_of(ONE) < record_bytes(fields) || bytes_of(OTHER) < record_bytes(fields);
+    note(MERGE, hand.library.number, given_short ? TEN_GIVEN : TEN_RESULT);
+    if (hand.library.number != 0)
+        return;
+    must_keep_laws(fields);
+    const uint8_t *merged = of_library(&hand, MERGED);
+    see(MERGE_ALIKE, memcmp(of_library(&hand, ONE), of_library(&hand, OTHER), record_bytes(fields)) == 0);
+    see(MERGE_NOTHING, fields > 0 && known_fields(merged, fields) == 0 && known_fields(of_library(&hand, ONE), fields) > 0);
+    see(MERGE_LONGEST, fields == 512);
+}
+
 static void try_call(uint64_t number)
 {
     static circuit c;
     number_in_hand = number;
     throw_dice(seed, number);
     set_trouble();
-    size_t roll = below(110);
+    size_t roll = below(116);
     if (roll < 28)
         try_read(&c);
     else if (roll < 38)
@@ -1918,8 +2043,10 @@ static void try_call(uint64_t number)
         try_judge(&c);
     else if (roll < 100)
         try_cover(&c);
-    else
+    else if (roll < 110)
         try_why(&c);
+    else
+        try_merge();
 }
 
 /* ---- at the end ---- */

@@ -192,12 +192,22 @@ static void lay_why(twice *t, string_rest *rest)
     give_bytes(t, rest, STATE, state_bytes);
 }
 
+static void lay_merge(twice *t, string_rest *rest)
+{
+    twice_begin(t, MERGE, (chudravik_counts){0}, (numbers){.fields = take_number(rest)});
+    size_t one_bytes = take_length(rest);
+    size_t other_bytes = take_length(rest);
+    lend_bytes(t, rest, MERGED, take_length(rest));
+    give_bytes(t, rest, ONE, one_bytes);
+    give_bytes(t, rest, OTHER, other_bytes);
+}
+
 typedef void layer(twice *t, string_rest *rest);
 
 static layer *layer_of(uint8_t first)
 {
     static layer *const older[] = {lay_read, lay_write, lay_tick, lay_run};
-    static layer *const newer[] = {lay_read_any, lay_judge, lay_why};
+    static layer *const newer[] = {lay_read_any, lay_judge, lay_why, lay_merge};
     if (first >> 4 != 0)
         return newer[((first >> 4) - 1) % (sizeof newer / sizeof newer[0])];
     return first & 8 ? lay_cover : older[first & 3];

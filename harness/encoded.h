@@ -2,7 +2,7 @@
  *
  *   byte 0      the call, and whether a word of a table is one byte (bit 2) or two. The call is by the high four bits:
  *               0 read, write, tick or run by the two low bits, or a cover where bit 3 is set; then in turn
- *               read_any, judge, why
+ *               read_any, judge, why, merge
  *   byte 1      how the buffers are laid (twice.h), two bits for each
  *   read        the table's words; how many bytes the text has at least; then the text as it is, with `x` behind it
  *   read_any    the table's words, the list's words; and on as for read
@@ -13,6 +13,7 @@
  *   judge       I, L, O, A, the table's words, n, j, the bytes of cubes, verdict and settled; then table, cubes
  *   cover       I, L, O, A, the table's words, n, the bytes of cubes and verdict; then table, cubes
  *   why         I, L, O, A, the table's words, the lamp, the bytes of state and why; then table, state
+ *   merge       the fields, the bytes of a, b and merged; then a, b
  *
  * A number is one byte below 240; or two, 240 + 256 x (first - 240) + second; or 255 and eight, the lowest first. What
  * the string has no bytes for is 0, and a length beyond any that is judged is cut.

@@ -106,11 +106,20 @@ static int explains(chudravik_counts counts)
            CHUDRAVIK_WHY_STACK > CHUDRAVIK_MOST_STACK;
 }
 
+static int merges(void)
+{
+    const uint8_t one = CHUDRAVIK_LOW << 6 | CHUDRAVIK_HIGH << 4, other = CHUDRAVIK_LOW << 6 | CHUDRAVIK_LOW << 4;
+    uint8_t merged = 0xFF;
+    return chudravik_merge(2, &one, 1, &other, 1, &merged, 1) == CHUDRAVIK_ACCEPTED && merged == CHUDRAVIK_LOW << 6 &&
+           chudravik_merge(CHUDRAVIK_MOST_FIELDS + 1, &one, 1, &other, 1, &merged, 1) == CHUDRAVIK_COUNTS;
+}
+
 int main(void)
 {
     chudravik_counts counts;
     if (!version_agrees() || !reads(&counts) || !reads_any(counts) || !writes_back(counts) || !ticks(counts) ||
-        !chains(counts) || !judges(counts) || !covers(counts) || !explains(counts)) {
+        !chains(counts) || !judges(counts) || !covers(counts) || !explains(counts) ||
+        !merges()) {
         fputs("header: not as it must be\n", stderr);
         return 1;
     }

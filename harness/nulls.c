@@ -1,7 +1,7 @@
 /* Null pointers with length 0: each call on several circuits, with every set of its buffers taken away and handed as
  * null. The simulator is handed an empty buffer in their place (twice.h), and both must agree. Fails too if a call was
  * never accepted with a null pointer: the circuit without counts needs no table. A chain, a judge, a cover and a why need a
- * lamp, so they need each of their buffers.
+ * lamp, so they need each of their buffers, and the shortest record of a merge has a byte.
  */
 #include "twice.h"
 
@@ -45,6 +45,7 @@ static const enum role buffers_of[CALLS][6] = {
     [JUDGE] = {TABLE, CUBES, VERDICT, SETTLED, ROLES},
     [COVER] = {TABLE, CUBES, VERDICT, ROLES},
     [WHY] = {TABLE, STATE, REASON, ROLES},
+    [MERGE] = {ONE, OTHER, MERGED, ROLES},
 };
 
 static size_t count_buffers(enum call call)
@@ -58,7 +59,7 @@ static size_t count_buffers(enum call call)
 static bool is_given(enum call call, enum role role)
 {
     bool reads = call == READ || call == READ_ANY;
-    return role == STATE || role == SWITCHES || (role == TEXT && reads) || (role == TABLE && !reads) ||
+    return role == STATE || role == SWITCHES || role == ONE || role == OTHER || (role == TEXT && reads) || (role == TABLE && !reads) ||
            (role == CUBES && call != CHAIN);
 }
 
@@ -70,6 +71,7 @@ static const void *given_content(const sample *s, enum role role)
     case TABLE:
         return s->table;
     case STATE:
+    case ONE:
         return &s->state;
     case CUBES:
         return s->cubes;
@@ -128,13 +130,14 @@ static void try_sets(twice *t, enum call call)
     size_t made = 0, accepted = 0;
     for (size_t i = 0; i < SAMPLES; i++)
         for (unsigned taken_away = 1; taken_away < 1u << count_buffers(call); taken_away++, made++) {
-            twice_begin(t, call, samples[i].counts, (numbers){.w = 1, .n = samples[i].n});
+            twice_begin(t, call, samples[i].counts,
+                        (numbers){.w = 1, .n = samples[i].n, .fields = samples[i].counts.latches});
             lend_buffers(t, &samples[i], taken_away);
             must_agree(t);
             accepted += t->library.number == CHUDRAVIK_ACCEPTED;
         }
     printf("%s: %zu calls with null pointers, %zu accepted\n", call_names[call], made, accepted);
-    if (accepted == 0 && call != CHAIN && call != JUDGE && call != COVER && call != WHY) {
+    if (accepted == 0 && call < CHAIN) {
         fprintf(stderr, "nulls: %s was never accepted\n", call_names[call]);
         exit(1);
     }

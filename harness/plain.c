@@ -607,6 +607,29 @@ uint32_t plain_why(chudravik_counts counts, const uint16_t *table, size_t table_
     return CHUDRAVIK_ACCEPTED;
 }
 
+/* ---- the merge ---- */
+
+uint32_t plain_merge(size_t fields, const uint8_t *a, size_t a_bytes, const uint8_t *b, size_t b_bytes, uint8_t *merged,
+                     size_t merged_bytes)
+{
+    if (fields > CHUDRAVIK_MOST_FIELDS) {
+        return CHUDRAVIK_COUNTS;
+    }
+    size_t length = record_length(fields);
+    if (a_bytes < length || b_bytes < length) {
+        return CHUDRAVIK_TOO_SHORT;
+    }
+    if (!sound(a, fields) || !sound(b, fields)) {
+        return CHUDRAVIK_RECORD;
+    }
+    if (merged_bytes < length) {
+        return CHUDRAVIK_TOO_SHORT;
+    }
+    memcpy(merged, a, length);
+    agree(merged, b, length);
+    return CHUDRAVIK_ACCEPTED;
+}
+
 /* ---- the reader ---- */
 
 static bool digit_at(const uint8_t *at, const uint8_t *end)

@@ -24,6 +24,9 @@ chudravik_judge_answer plain_judge(chudravik_counts counts, const uint16_t *tabl
 uint32_t plain_why(chudravik_counts counts, const uint16_t *table, size_t table_words, const uint8_t *state,
                    size_t state_bytes, size_t lamp, uint8_t *why, size_t why_bytes);
 
+uint32_t plain_merge(size_t fields, const uint8_t *a, size_t a_bytes, const uint8_t *b, size_t b_bytes, uint8_t *merged,
+                     size_t merged_bytes);
+
 chudravik_cover_answer plain_cover(chudravik_counts counts, const uint16_t *table, size_t table_words,
                                    const uint8_t *cubes, size_t cubes_bytes, size_t n, uint8_t *verdict,
                                    size_t verdict_bytes);

@@ -17,7 +17,8 @@ enum {
     VARIABLES_CEILING = 4095,
     TEXT_CEILING = 60000,
     INTERVAL_CEILING = 1000,
-    CUBES_CEILING = 65536
+    CUBES_CEILING = 65536,
+    FIELDS_CEILING = 512
 };
 
 typedef struct {
@@ -914,5 +915,27 @@ uint32_t simulate_why(chudravik_counts counts, const uint16_t *table, size_t tab
     if (why_bytes < record_length(c.latches))
         return 10;
     pack(known, c.latches, why);
+    return 0;
+}
+
+/* ---- merge ---- */
+
+uint32_t simulate_merge(size_t fields, const uint8_t *a, size_t a_bytes, const uint8_t *b, size_t b_bytes,
+                        uint8_t *merged, size_t merged_bytes)
+{
+    value one[FIELDS_CEILING], other[FIELDS_CEILING];
+    if (fields > FIELDS_CEILING)
+        return 3;
+    if (a_bytes < record_length(fields) || b_bytes < record_length(fields))
+        return 10;
+    if (!good_record(a, fields) || !good_record(b, fields))
+        return 14;
+    if (merged_bytes < record_length(fields))
+        return 10;
+    unpack(a, one, fields);
+    unpack(b, other, fields);
+    for (size_t i = 0; i < fields; i++)
+        one[i] = shared(one[i], other[i]);
+    pack(one, fields, merged);
     return 0;
 }

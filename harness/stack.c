@@ -92,6 +92,11 @@ static void call_why(void)
     number = chudravik_why(counts, table, CHUDRAVIK_MOST_TABLE_WORDS, latches, sizeof latches, 0, settled, sizeof settled);
 }
 
+static void call_merge(void)
+{
+    number = chudravik_merge(counts.latches, latches, sizeof latches, latches, sizeof latches, settled, sizeof settled);
+}
+
 /* A shift register with gates on its way: the chain goes through many cubes, and closes. */
 static void make_circuit(void)
 {
@@ -153,7 +158,8 @@ static const named_call WRITE = {"write", call_write, CHUDRAVIK_MOST_STACK},
                         CHAIN = {"chain", call_chain, CHUDRAVIK_MOST_STACK},
                         JUDGE = {"judge", call_judge, CHUDRAVIK_MOST_STACK},
                         COVER = {"cover", call_cover, CHUDRAVIK_MOST_STACK},
-                        WHY = {"why", call_why, CHUDRAVIK_WHY_STACK};
+                        WHY = {"why", call_why, CHUDRAVIK_WHY_STACK},
+                        MERGE = {"merge", call_merge, CHUDRAVIK_MOST_STACK};
 static size_t nothing;
 
 /* Whether the call gives this number, and takes no more stack than it may. */
@@ -171,7 +177,8 @@ static int accepted(const char *what)
            measured(READ_ANY, what, CHUDRAVIK_ACCEPTED) &
            measured(TICK, what, CHUDRAVIK_ACCEPTED) & measured(CHAIN, what, CHUDRAVIK_ACCEPTED) &
            measured(JUDGE, what, CHUDRAVIK_ACCEPTED) & measured(COVER, what, CHUDRAVIK_ACCEPTED) &
-           measured(WHY, what, counts.latches == 0 ? CHUDRAVIK_ACCEPTED : CHUDRAVIK_LAMP_UNKNOWN);
+           measured(WHY, what, counts.latches == 0 ? CHUDRAVIK_ACCEPTED : CHUDRAVIK_LAMP_UNKNOWN) &
+           measured(MERGE, what, CHUDRAVIK_ACCEPTED);
 }
 
 static int refused(const char *what)
@@ -180,7 +187,7 @@ static int refused(const char *what)
     text[text_bytes++] = '0';
     passed = measured(READ, what, CHUDRAVIK_TRAILING) & measured(READ_ANY, what, CHUDRAVIK_TRAILING);
     latches[sizeof latches - 1] = 3;
-    passed &= measured(TICK, what, CHUDRAVIK_RECORD);
+    passed &= measured(TICK, what, CHUDRAVIK_RECORD) & measured(MERGE, what, CHUDRAVIK_RECORD);
     latches[sizeof latches - 1] = 0;
     back = stored;
     passed &= measured(JUDGE, what, CHUDRAVIK_NOT_A_CHAIN);

@@ -6,10 +6,10 @@
 #include <stdlib.h>
 #include <string.h>
 
-const char *const call_names[CALLS] = {"read", "read_any", "write", "tick", "chain", "judge", "cover", "why"};
+const char *const call_names[CALLS] = {"read", "read_any", "write", "tick", "chain", "judge", "cover", "why", "merge"};
 const char *const role_names[ROLES] = {"text",  "table", "list",    "state",  "switches",
                                        "next",  "lamps", "cubes",   "verdict", "settled",
-                                       "why"};
+                                       "why",   "a",     "b",       "merged"};
 
 /* ---- buffers ---- */
 
@@ -226,16 +226,31 @@ static answer simulator_explains(const twice *t)
     return (answer){.number = number};
 }
 
+static answer library_merges(const twice *t)
+{
+    uint32_t number = chudravik_merge(t->with.fields, of_library(t, ONE), bytes_of(t, ONE), of_library(t, OTHER),
+                                      bytes_of(t, OTHER), of_library(t, MERGED), bytes_of(t, MERGED));
+    return (answer){.number = number};
+}
+
+static answer simulator_merges(const twice *t)
+{
+    uint32_t number = simulate_merge(t->with.fields, of_simulator(t, ONE), bytes_of(t, ONE), of_simulator(t, OTHER),
+                                     bytes_of(t, OTHER), of_simulator(t, MERGED), bytes_of(t, MERGED));
+    return (answer){.number = number};
+}
+
 typedef answer call_of(const twice *t);
 
 static call_of *const by_library[CALLS] = {
     [READ] = library_reads,   [READ_ANY] = library_reads_any, [WRITE] = library_writes, [TICK] = library_ticks,
     [CHAIN] = library_chains, [JUDGE] = library_judges,       [COVER] = library_covers, [WHY] = library_explains,
+    [MERGE] = library_merges,
 };
 static call_of *const by_simulator[CALLS] = {
     [READ] = simulator_reads,   [READ_ANY] = simulator_reads_any, [WRITE] = simulator_writes,
     [TICK] = simulator_ticks,   [CHAIN] = simulator_chains,       [JUDGE] = simulator_judges,
-    [COVER] = simulator_covers, [WHY] = simulator_explains,
+    [COVER] = simulator_covers, [WHY] = simulator_explains,       [MERGE] = simulator_merges,
 };
 
 /* ---- what is compared ---- */
@@ -330,9 +345,9 @@ static void show_buffer(const char *name, const lent *l)
 
 void twice_show(const twice *t)
 {
-    fprintf(stderr, "  call %s, I %zu, L %zu, O %zu, A %zu, w %zu, n %zu, j %zu, lamp %zu\n", call_names[t->call],
-            t->counts.inputs, t->counts.latches, t->counts.lamps, t->counts.gates, t->with.w, t->with.n, t->with.j,
-            t->with.lamp);
+    fprintf(stderr, "  call %s, I %zu, L %zu, O %zu, A %zu, w %zu, n %zu, j %zu, lamp %zu, fields %zu\n",
+            call_names[t->call], t->counts.inputs, t->counts.latches, t->counts.lamps, t->counts.gates, t->with.w,
+            t->with.n, t->with.j, t->with.lamp, t->with.fields);
     for (size_t role = 0; role < ROLES; role++)
         if (t->lent[role].used)
             show_buffer(role_names[role], &t->lent[role]);

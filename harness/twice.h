@@ -9,9 +9,9 @@
 #include "guarded.h"
 #include "simulator.h"
 
-enum call { READ, READ_ANY, WRITE, TICK, CHAIN, JUDGE, COVER, WHY, CALLS };
+enum call { READ, READ_ANY, WRITE, TICK, CHAIN, JUDGE, COVER, WHY, MERGE, CALLS };
 
-enum role { TEXT, TABLE, LIST, STATE, SWITCHES, NEXT, LAMPS, CUBES, VERDICT, SETTLED, REASON, ROLES };
+enum role { TEXT, TABLE, LIST, STATE, SWITCHES, NEXT, LAMPS, CUBES, VERDICT, SETTLED, REASON, ONE, OTHER, MERGED, ROLES };
 
 extern const char *const call_names[CALLS];
 extern const char *const role_names[ROLES];
@@ -45,12 +45,13 @@ typedef struct {
     size_t cube;
 } answer;
 
-/* What a call is handed besides its counts. */
+/* What a call is handed besides its counts; a merge has no counts. */
 typedef struct {
     size_t w;
     size_t n;
     size_t j;
     size_t lamp;
+    size_t fields;
 } numbers;
 
 typedef struct {

@@ -49,6 +49,7 @@ extern "C" {
 #define CHUDRAVIK_MOST_WRITTEN 58415     /* bytes of a text that is written: no circuit needs more */
 #define CHUDRAVIK_MOST_INTERVAL 1000     /* w */
 #define CHUDRAVIK_MOST_CUBE_BYTES 65536  /* the cube buffer */
+#define CHUDRAVIK_MOST_FIELDS 512        /* of the records of chudravik_merge */
 #define CHUDRAVIK_MOST_STACK 3072
 #define CHUDRAVIK_MOST_ANY_STACK 98304   /* chudravik_read_any keeps all lines until it can order them */
 #define CHUDRAVIK_WHY_STACK 393216       /* chudravik_why goes down from gate to gate: on the deepest circuit */
@@ -92,7 +93,7 @@ extern "C" {
 #define CHUDRAVIK_ACCEPTED 0
 #define CHUDRAVIK_TEXT_TOO_LONG 1       /* text over 60,000 bytes */
 #define CHUDRAVIK_FIRST_LINE 2          /* first line not `aag M I L O A` */
-#define CHUDRAVIK_COUNTS 3              /* a count over its ceiling, or M not I + L + A */
+#define CHUDRAVIK_COUNTS 3              /* a count over its ceiling, or M not I + L + A; fields of a merge over 512 */
 #define CHUDRAVIK_BODY_LINE 4           /* a body line missing or ill-formed */
 #define CHUDRAVIK_OWN_LITERAL 5         /* own literal not the one due in that place */
 #define CHUDRAVIK_LITERAL_TOO_LARGE 6   /* another literal above 2M + 1 */
@@ -281,6 +282,15 @@ chudravik_cover_answer chudravik_cover(chudravik_counts counts, const uint16_t *
  * The work is linear in the gates. Takes up to CHUDRAVIK_WHY_STACK bytes of stack, by the depth of the gates. */
 uint32_t chudravik_why(chudravik_counts counts, const uint16_t *table, size_t table_words, const uint8_t *state,
                        size_t state_bytes, size_t lamp, uint8_t *why, size_t why_bytes);
+
+/* The merge of two records of so many fields, say the settled records of two runs: each field on which both agree, and
+ * CHUDRAVIK_UNKNOWN where they do not. So order, grouping and repetition make no difference, a record in which all is
+ * unknown swallows every other, and the merge is the narrowest single cube that covers both. The settled record of
+ * chudravik_judge is the merge of the cubes from j to n - 1.
+ * Refusals: 3 where there are more than 512 fields, 10 for a and b, 14 for a and b, 10 for merged. Bytes of a and b beyond
+ * their records are ignored, and those of merged stay as they were. Answers the number. */
+uint32_t chudravik_merge(size_t fields, const uint8_t *a, size_t a_bytes, const uint8_t *b, size_t b_bytes,
+                         uint8_t *merged, size_t merged_bytes);
 
 #ifdef __cplusplus
 }

@@ -16,6 +16,8 @@ ghost use Rattle.sent.specs.Call.{Sent};
 ghost use Rattle.sent.specs.Promise.{Keeps};
 ghost use Rattle.asked.specs.Call.{Explained};
 ghost use Rattle.asked.specs.Promise.{Suffices};
+ghost use Rattle.merging.specs.Call.{Merging};
+ghost use Rattle.merging.specs.Promise.{Narrowest};
 
 #[no_mangle]
 pub extern "C" fn chudravik_read(text: &[u8], table: &mut [u16]) -> ReadAnswer
@@ -107,4 +109,11 @@ pub extern "C" fn chudravik_why(
     ensures { λ r. ⌜ Explained (record { counts = counts; table = now (table .entry); state = now (state .entry); lamp = lamp; why = now (why .entry) }) r (now (why .exit)) × Suffices (record { counts = counts; table = now (table .entry); state = now (state .entry); lamp = lamp; why = now (why .entry) }) r (now (why .exit)) ⌝ }
 {
     why::why(counts, table, state, lamp, why)
+}
+
+#[no_mangle]
+pub extern "C" fn chudravik_merge(fields: usize, a: &[u8], b: &[u8], merged: &mut [u8]) -> u32
+    ensures { λ r. ⌜ Merging (record { fields = fields; a = now (a .entry); b = now (b .entry); merged = now (merged .entry) }) r (now (merged .exit)) × Narrowest (record { fields = fields; a = now (a .entry); b = now (b .entry); merged = now (merged .entry) }) r (now (merged .exit)) ⌝ }
+{
+    merging::merge(fields, a, b, merged)
 }

@@ -1,4 +1,4 @@
--- A cube that subsumes another loses no state; the merge of cubes is as long as they are, and loses none of theirs. Assumes nothing.
+-- A cube that subsumes another loses no state; the merge of cubes is as long as they are, and the narrowest that loses none of theirs. Assumes nothing.
 use mathlib.Core.Path.{_≡_, sym, _∙_}
 use mathlib.Core.Bool.{Bool, true, false, false≢true}
 use mathlib.Core.List.{List, [], _∷_}
@@ -10,7 +10,8 @@ use Rattle.three.specs.Lists.{empty, also}
 use Rattle.three.specs.Value.{Three, unknown, low, high, code, ternary}
 use Rattle.three.specs.Cube.{Cube, alike, allows, subsumes, Holds, any, off, on, _∋_}
 use Rattle.three.proofs.Lists.{and-parts, length-adjust}
-use Rattle.three.proofs.Merge.{length-merged, merged-covers-left, merged-covers-right}
+use Rattle.three.proofs.Merge.{length-merged, subsumes-self, merged-covers-left, merged-covers-right, merged-narrowest}
+use Rattle.three.proofs.Subsuming.{subsumes-trans}
 use Rattle.circuit.specs.Circuit.{Circuit}
 use Rattle.cubes.specs.Run.{hold, nextCube, start, reached, Stage, store, stage, cubeAt, merge, mergeFrom, resets}
 use Rattle.circuit.proofs.Pass.{next-sized}
@@ -44,15 +45,25 @@ module _ (cubes : ℕ → Cube) (size : ℕ) (sized : (k : ℕ) → length (cube
   merge-sized zero = sized k
   merge-sized (suc more) = length-merged _ _ ∙ merge-sized more
 
-  -- the merge of cubes k to k + more holds what any of them holds
-  pub merge-widens : (more i : ℕ) → k ≤ i → i ≤ k + more → {s : List Bool} → cubes i ∋ s → merge cubes k more ∋ s
+  -- the merge of cubes k to k + more subsumes each of them
+  pub merge-covers : (more i : ℕ) → k ≤ i → i ≤ k + more → subsumes (merge cubes k more) (cubes i) ≡ true
   unfolding merge
-  merge-widens zero i l u h = let e : i ≡ k = omega arith in rw e at h
-  merge-widens (suc more) i l u {s} h = go (decLe i (k + more)) (λ (u : i ≤ k + more). merge-widens more i l u h)
+  merge-covers zero i l u = let e : i ≡ k = omega arith in rw e (subsumes-self (cubes k))
+  merge-covers (suc more) i l u = go (decLe i (k + more)) (λ (u : i ≤ k + more). merge-covers more i l u)
     where
-      go : Dec (i ≤ k + more) → (i ≤ k + more → merge cubes k more ∋ s) → merge cubes k (suc more) ∋ s
-      go (yes early) rest = subsumes-widens _ (merged-covers-left _ _) (rest early)
-      go (no late) rest = let e : i ≡ k + suc more = omega arith in subsumes-widens _ (merged-covers-right _ _ (merge-sized more ∙ sym (sized _))) (rw e at h)
+      go : Dec (i ≤ k + more) → (i ≤ k + more → subsumes (merge cubes k more) (cubes i) ≡ true) → subsumes (merge cubes k (suc more)) (cubes i) ≡ true
+      go (yes early) rest = subsumes-trans _ _ _ (merged-covers-left _ _) (rest early)
+      go (no late) rest = let e : i ≡ k + suc more = omega arith in rw e (merged-covers-right _ _ (merge-sized more ∙ sym (sized _)))
+
+  -- and is the narrowest that does
+  pub merge-narrowest : (more : ℕ) (c : Cube) → ((i : ℕ) → k ≤ i → i ≤ k + more → subsumes c (cubes i) ≡ true) → subsumes c (merge cubes k more) ≡ true
+  unfolding merge
+  merge-narrowest zero c over = over k (omega arith) (omega arith)
+  merge-narrowest (suc more) c over = merged-narrowest c _ _ (merge-narrowest more c (λ i l u. over i l (omega arith))) (over (k + suc more) (omega arith) (omega arith))
+
+  -- so it holds what any of them holds
+  pub merge-widens : (more i : ℕ) → k ≤ i → i ≤ k + more → {s : List Bool} → cubes i ∋ s → merge cubes k more ∋ s
+  merge-widens more i l u h = subsumes-widens _ (merge-covers more i l u) h
 
 module _ (none : Cube) (cubes : ℕ → Cube) (size : ℕ) (sized : (k : ℕ) → length (cubes k) ≡ size) (k : ℕ) where
   pub mergeFrom-sized : length none ≡ size → (count : ℕ) → length (mergeFrom none cubes k count) ≡ size
@@ -60,10 +71,18 @@ module _ (none : Cube) (cubes : ℕ → Cube) (size : ℕ) (sized : (k : ℕ) �
   mergeFrom-sized e zero = e
   mergeFrom-sized e (suc more) = merge-sized cubes size sized k more
 
-  pub mergeFrom-widens : (count i : ℕ) → k ≤ i → i < k + count → {s : List Bool} → cubes i ∋ s → mergeFrom none cubes k count ∋ s
+  pub mergeFrom-covers : (count i : ℕ) → k ≤ i → i < k + count → subsumes (mergeFrom none cubes k count) (cubes i) ≡ true
   unfolding mergeFrom
-  mergeFrom-widens zero i l u h = absurd (omega arith)
-  mergeFrom-widens (suc more) i l u h = merge-widens cubes size sized k more i l (omega arith) h
+  mergeFrom-covers zero i l u = absurd (omega arith)
+  mergeFrom-covers (suc more) i l u = merge-covers cubes size sized k more i l (omega arith)
+
+  pub mergeFrom-narrowest : (count : ℕ) → 0 < count → (c : Cube) → ((i : ℕ) → k ≤ i → i < k + count → subsumes c (cubes i) ≡ true) → subsumes c (mergeFrom none cubes k count) ≡ true
+  unfolding mergeFrom
+  mergeFrom-narrowest zero some c over = absurd (omega arith)
+  mergeFrom-narrowest (suc more) some c over = merge-narrowest cubes size sized k more c (λ i l u. over i l (omega arith))
+
+  pub mergeFrom-widens : (count i : ℕ) → k ≤ i → i < k + count → {s : List Bool} → cubes i ∋ s → mergeFrom none cubes k count ∋ s
+  mergeFrom-widens count i l u h = subsumes-widens _ (mergeFrom-covers count i l u) h
 
 -- ---- the cubes of a run
 

@@ -114,6 +114,6 @@ mergeFrom none cubes k n = elim n [ zero ↦ none | suc more ↦ merge cubes k m
 unfoldable pub verdict : Circuit → (ℕ → Cube) → ℕ → Cube
 verdict c cubes n = mergeFrom (replicate (length (c .lamps)) low) (λ k. lampsIn c (cubes k)) 0 n
 
--- per latch the known value shared by cubes j to n − 1, else unknown; where j = n there are none of these
+-- the merge of the loop's cubes, j to n − 1: per latch the value that all of them know alike, else unknown; where j = n there are none of these
 unfoldable pub settled : Circuit → (ℕ → Cube) → ℕ → ℕ → Cube
 settled c cubes n j = mergeFrom (replicate (length (c .latches)) unknown) cubes j (n - j)

@@ -9,6 +9,7 @@
 //   judge I L O A WORDS w.. CUBES b.. N J VERDICT SETTLED      the table, the cubes, n, j; the lengths of the results
 //   cover I L O A WORDS w.. CUBES b.. N VERDICT                the table, the cubes, their number; the result's length
 //   why I L O A WORDS w.. STATE b.. LAMP WHY                   the table, the state, the lamp's number; the result's length
+//   merge FIELDS A b.. B b.. MERGED                            the count of fields, two records; the result's length
 //
 // In TEXT `/` stands for byte 10, and `\hh` for any byte; what goes beyond BYTES is cut. A list, w.. or b.., has its
 // length in front of it. Each buffer that is lent has 0xFF in every byte. In an answer equal elements that follow each
@@ -527,6 +528,62 @@ fn why_vector(line: &[u8]) {
     why_given(counts, given, &table, &state);
 }
 
+// ---- merge
+
+fn show_merge(fields: usize, a: &[u8], b: &[u8], merged: &mut [u8]) {
+    let number = merging::merge(fields, a, b, merged);
+    say_number(b"merge number ", number as usize);
+    say_bytes(b"; merged", merged);
+    say(b"\n");
+}
+
+// What is given and lent, by its length, and the count of fields.
+struct MergeGiven {
+    fields: usize,
+    a: usize,
+    b: usize,
+    merged: usize,
+}
+
+fn merge_given(given: MergeGiven, a: &[u8], b: &[u8]) {
+    let mut merged = [UNTOUCHED; MOST_BYTES];
+    let a_bytes = bytes_within(given.a, a);
+    let b_bytes = bytes_within(given.b, b);
+    let merged_bytes = bytes_within(given.merged, &merged);
+    if a_bytes < given.a || b_bytes < given.b || merged_bytes < given.merged {
+        too_large();
+        return;
+    }
+    show_merge(
+        given.fields,
+        &a[..a_bytes],
+        &b[..b_bytes],
+        &mut merged[..merged_bytes],
+    );
+}
+
+fn merge_vector(line: &[u8]) {
+    let mut a = [0u8; MOST_BYTES];
+    let mut b = [0u8; MOST_BYTES];
+    let fields = vector::number(line, 6);
+    let a_bytes = vector::next(line, fields);
+    let behind_a = vector::bytes(line, a_bytes, &mut a);
+    let b_bytes = vector::next(line, behind_a);
+    let behind_b = vector::bytes(line, b_bytes, &mut b);
+    let merged = vector::next(line, behind_b);
+    if !vector::ends(line, merged) {
+        not_a_vector();
+        return;
+    }
+    let given = MergeGiven {
+        fields: fields.value,
+        a: a_bytes.value,
+        b: b_bytes.value,
+        merged: merged.value,
+    };
+    merge_given(given, &a, &b);
+}
+
 // ---- the list
 
 // The counts, the length of the table, whose words go into the table that is lent, and where the line goes on.
@@ -576,6 +633,8 @@ fn answer(line: &[u8]) {
         cover_vector(line);
     } else if vector::opens(line, b"why ") {
         why_vector(line);
+    } else if vector::opens(line, b"merge ") {
+        merge_vector(line);
     } else {
         not_a_vector();
     }

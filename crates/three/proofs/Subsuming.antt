@@ -9,7 +9,7 @@ use Rattle.three.specs.Lists.{Each, empty, also}
 use Rattle.three.specs.Value.{Three, unknown, low, high, code}
 use Rattle.three.specs.Cube.{Cube, alike, allows, subsumes, knownFields, merged}
 use Rattle.three.proofs.Fields.{alike-same}
-use Rattle.three.proofs.Merge.{merged-grouping, subsumes-length, subsumes-keeps, keeps-subsumes}
+use Rattle.three.proofs.Merge.{merged-order, merged-grouping, subsumes-length, subsumes-keeps, keeps-subsumes}
 use Rattle.three.proofs.Counting.{count, known-cons}
 
 pub subsumes-trans : (a b c : Cube) → subsumes a b ≡ true → subsumes b c ≡ true → subsumes a c ≡ true
@@ -17,6 +17,10 @@ subsumes-trans a b c h g =
     let long = subsumes-length a b h in
     keeps-subsumes a c (long ∙ subsumes-length b c g)
     (ap (λ v. merged v c) (sym (subsumes-keeps a b h)) ∙ merged-grouping a b c long ∙ ap (merged a) (subsumes-keeps b c g) ∙ subsumes-keeps a b h)
+
+-- cubes that subsume each other are one
+pub subsumes-both : (a b : Cube) → subsumes a b ≡ true → subsumes b a ≡ true → a ≡ b
+subsumes-both a b h g = sym (subsumes-keeps a b h) ∙ merged-order a b (subsumes-length a b h) ∙ subsumes-keeps b a g
 
 -- a field is X, or the other
 abbrev pub Wider : Three → Three → Type 0

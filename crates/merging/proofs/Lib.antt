@@ -1,0 +1,6 @@
+pub mod Refusing
+pub mod Left
+pub mod Laws
+pub mod Week
+pub mod Settled
+pub mod Determined
