@@ -6,6 +6,7 @@ ghost use Prim.Native.Nat.{_-_, _<_};
 ghost use Rattle.circuit.specs.Refusal.{refusal};
 ghost use Rattle.cubes.specs.Chain.{chainTests, Chained};
 ghost use Rattle.cubes.specs.Promise.{Closing};
+ghost use Rattle.cubes.specs.Exact.{Singles};
 
 // Interval w is 0 to 1,000.
 const MOST_INTERVAL: usize = 1000;
@@ -34,7 +35,7 @@ fn chain_refusal(counts: Counts, table: &[u16], w: usize, cubes: usize) -> u32
 
 // The public chain. Nothing is relied on: any numbers and buffers may be handed in.
 pub fn chain(counts: Counts, table: &[u16], w: usize, cubes: &mut [u8]) -> ChainAnswer
-    ensures { λ r. ⌜ Chained (record { counts = counts; table = now (table .entry); w = w; cubes = now (cubes .entry) }) r (now (cubes .exit)) × Closing (record { counts = counts; table = now (table .entry); w = w; cubes = now (cubes .entry) }) r ⌝ }
+    ensures { λ r. ⌜ Chained (record { counts = counts; table = now (table .entry); w = w; cubes = now (cubes .entry) }) r (now (cubes .exit)) × Closing (record { counts = counts; table = now (table .entry); w = w; cubes = now (cubes .entry) }) r × Singles (record { counts = counts; table = now (table .entry); w = w; cubes = now (cubes .entry) }) r (now (cubes .exit)) ⌝ }
 {
     let number = chain_refusal(counts, table, w, cubes.len());
     if number != 0 {

@@ -12,6 +12,7 @@ ghost use Rattle.drawn.specs.Lines.{ReadingAny};
 ghost use Rattle.cubes.specs.Chain.{Chained};
 ghost use Rattle.cubes.specs.Judge.{Judged};
 ghost use Rattle.cubes.specs.Promise.{Closing, Promises};
+ghost use Rattle.cubes.specs.Exact.{Singles};
 ghost use Rattle.sent.specs.Call.{Sent};
 ghost use Rattle.sent.specs.Promise.{Keeps};
 ghost use Rattle.asked.specs.Call.{Explained};
@@ -65,7 +66,7 @@ pub extern "C" fn chudravik_chain(
     w: usize,
     cubes: &mut [u8],
 ) -> ChainAnswer
-    ensures { λ r. ⌜ Chained (record { counts = counts; table = now (table .entry); w = w; cubes = now (cubes .entry) }) r (now (cubes .exit)) × Closing (record { counts = counts; table = now (table .entry); w = w; cubes = now (cubes .entry) }) r ⌝ }
+    ensures { λ r. ⌜ Chained (record { counts = counts; table = now (table .entry); w = w; cubes = now (cubes .entry) }) r (now (cubes .exit)) × Closing (record { counts = counts; table = now (table .entry); w = w; cubes = now (cubes .entry) }) r × Singles (record { counts = counts; table = now (table .entry); w = w; cubes = now (cubes .entry) }) r (now (cubes .exit)) ⌝ }
 {
     chained::chain(counts, table, w, cubes)
 }

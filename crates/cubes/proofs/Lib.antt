@@ -17,6 +17,9 @@ pub mod Buffered
 pub mod Chains
 pub mod Chaining
 pub mod Judging
+pub mod Whole
+pub mod Exact
 pub mod Promising
+pub mod Trusted
 pub mod Own
 pub mod Determined

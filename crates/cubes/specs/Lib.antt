@@ -4,6 +4,7 @@ pub mod Buffer
 pub mod Chain
 pub mod Given
 pub mod Judge
+pub mod Exact
 pub mod Promise
 pub mod OutcomesInCode
 pub mod HeldInCode

@@ -13,6 +13,7 @@ use Rattle.cubes.specs.Buffer.{cubeIn}
 use Rattle.cubes.specs.Chain.{ChainGiven, roomIn, refusedBy}
 use Rattle.cubes.specs.Judge.{JudgeGiven, circuitIn}
 use Rattle.cubes.specs.Execution.{Execution, stateAfter, lampsAfter}
+use Rattle.cubes.specs.Exact.{Opens}
 
 -- the most cubes that a run takes with w at least 1: one where there is no latch, else w and one for each latch
 unfoldable pub mostCubes : ℕ → ℕ → ℕ
@@ -41,3 +42,5 @@ module _ (g : JudgeGiven) (verdict settled : List ℕ) where
   -- whatever cubes the judge accepts cover every execution, under any switch sequence
   pub record Promises (r : JudgeAnswer) : Type 0 where
     pub covers : r .number ≡ 0 → (e : Execution (circuitIn g)) → Covered e
+    -- and of cubes without X it says more
+    pub opens : Opens g r verdict
