@@ -47,8 +47,8 @@ module _ {c : Circuit} {cubes : ℕ → Cube} {n j : ℕ} (chain : Chain c cubes
   chain-exact = record {
     occurs = λ k h. whole-state (cubes k) (single k h ∙ sym (chain .sized k)) (rw (place-early n j k (chain .below) h) at (place-covers chain e k));
     stored = λ t.
-      let below = place-below n j t (chain .below) in
-      (place n j t, below, whole-state (cubes (place n j t)) (single _ below ∙ sym (chain .sized _)) (place-covers chain e t));
+        let below = place-below n j t (chain .below) in
+        (place n j t, below, whole-state (cubes (place n j t)) (single _ below ∙ sym (chain .sized _)) (place-covers chain e t));
   }
 
   -- without switches the lamps in cube k are those of tick k
@@ -106,6 +106,11 @@ module _ (c : Circuit) where
   unfolding none stage store widened due
   none-held zero = refl
   none-held (suc k) = none-held k
+
+  -- what is looked for is the next state
+  pub plain-reached : (k : ℕ) → reached c (stage c 0 k) ≡ nextCube c (cubeAt c 0 k)
+  unfolding reached cubeAt
+  plain-reached k = rw (none-held k) (hold-none (c .latches) _)
 
   -- each cube is the next state of the one before
   pub plain-next : (k : ℕ) → cubeAt c 0 (suc k) ≡ nextCube c (cubeAt c 0 k)

@@ -20,6 +20,7 @@ pub mod Judging
 pub mod Whole
 pub mod Exact
 pub mod Promising
+pub mod Unwidened
 pub mod Trusted
 pub mod Own
 pub mod Determined

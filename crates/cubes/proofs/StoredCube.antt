@@ -2,16 +2,17 @@
 use mathlib.Core.Path.{_≡_, refl, sym, ap, ap₂, _∙_}
 use mathlib.Core.Bool.{Bool, true, false, _||_}
 use mathlib.Core.List.{List, [], _∷_, map}
-use Prim.Native.Nat.{ℕ, zero, suc, _*_, _<_, _≤_}
+use Prim.Native.Nat.{ℕ, zero, suc, _*_, _^_, _<_, _≤_}
 use native.Mathlib.Omega.{arith}
 use lib.Bits.{bitAnd, bitOr}
-use lib.Dec.{eqb}
+use borrow.Author.Tests.{leb-true}
+use lib.Dec.{eqb, leb}
 use lib.ListN.{length, getD, take, drop}
 use Rattle.three.specs.Lists.{tabulate, every, adjust}
 use Rattle.three.specs.Cube.{Cube, subsumes}
 use Rattle.three.specs.Record.{bytesFor, byteAt, pack, unpack, sound}
 use Rattle.three.specs.RecordInCode.{IsRecord}
-use Rattle.three.proofs.Lists.{tabulate-ext, every-ext, length-adjust}
+use Rattle.three.proofs.Lists.{tabulate-ext, every-ext, every-at, length-adjust}
 use Rattle.three.proofs.Pack.{length-pack, getD-pack, length-unpack, unpack-pack, unpack-take}
 use Rattle.three.proofs.Soundness.{sound-pack, sound-take, pack-unpack}
 use Rattle.three.proofs.Bytewise.{covers, covers-subsumes}
@@ -30,6 +31,16 @@ some-bytes latches = omega arith
 pub few-bytes : {latches : ℕ} → latches ≤ 512 → cubeBytes latches ≤ longestCube
 unfolding cubeBytes
 few-bytes few = omega arith
+
+-- all cubes of 8 latches and less fit into 19,683 bytes
+pub all-fit : (latches : ℕ) → latches ≤ 8 → 3 ^ latches * cubeBytes latches ≤ 19683
+all-fit latches few = leb-true _ _ (every-at 9 fits computed latches (omega arith))
+  where
+    fits : ℕ → Bool
+    fits n = leb (3 ^ n * cubeBytes n) 19683
+
+    computed : every 9 fits ≡ true
+    computed = unfold every cubeBytes in refl
 
 -- ---- it is a record with a field for each latch
 

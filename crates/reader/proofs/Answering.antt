@@ -102,23 +102,30 @@ read-so : (text : List ℕ) {ending : List ℕ} → endingOf text ≡ ending →
 unfolding readText
 read-so text decided = ap (λ (e : List ℕ). readEnded e text) decided
 
+pub judged-read : {ending : List ℕ} (text : List ℕ) → endingOf text ≡ ending → {j : Judgement} → TextJudged ending text j → {m : ℕ} → j ≡ Refused m → readText text ≡ refused m
+judged-read {ending} text decided t e = read-so text decided ∙ subst (TextJudged ending text) e t
+
+module _ {ending : List ℕ} (text : List ℕ) (decided : endingOf text ≡ ending) {c : Counts} {at : ℕ} (here : BodyAt ending text c at) where
+  pub body-read : readText text ≡ accepted (record { counts = c; words = bodyWords ending c (kinds c) (from text at) })
+  body-read = read-so text decided ∙ here .reads
+
+  pub body-long : length (bodyWords ending c (kinds c) (from text at)) ≡ tableLength c
+  body-long = describes text body-read .whole
+
+  pub body-fillable : (table : List ℕ) → tableLength c ≤ length table → Fillable ending text c (stand (kinds c) at 0 table)
+  body-fillable table s = record { bounded = here .bounded; within = here .within; accepts = here .accepts; room = omega (arith, body-long) }
+
 module _ {ending : List ℕ} (text table : List ℕ) (decided : endingOf text ≡ ending) {j : Judgement} (t : TextJudged ending text j) where
   pub answers-refused : {m n : ℕ} {c : Counts} → j ≡ Refused m → n ≡ m → c ≡ zeros → Reading text table n c table
-  answers-refused e q k = rw (q, k) (reading-refused text table (read-stops text table (read-so text decided ∙ subst (TextJudged ending text) e t)))
+  answers-refused e q k = rw (q, k) (reading-refused text table (read-stops text table (judged-read text decided t e)))
 
   module _ {c : Counts} {at : ℕ} (e : j ≡ Body c at) where
-    here : BodyAt ending text c at
-    here = starts t e
-
-    text-read : readText text ≡ accepted (record { counts = c; words = bodyWords ending c (kinds c) (from text at) })
-    text-read = read-so text decided ∙ here .reads
-
     pub answers-short : {n : ℕ} {z : Counts} → n ≡ 10 → z ≡ zeros → length table < tableLength c → Reading text table n z table
-    answers-short q k s = rw (q, k) (reading-refused text table (read-short text table text-read s))
+    answers-short q k s = rw (q, k) (reading-refused text table (read-short text table (body-read text decided (starts t e)) s))
 
     module _ (s : tableLength c ≤ length table) where
       pub fillable : Fillable ending text c (stand (kinds c) at 0 table)
-      fillable = record { bounded = here .bounded; within = here .within; accepts = here .accepts; room = omega (arith, describes text text-read .whole) }
+      fillable = body-fillable text decided (starts t e) table s
 
       pub answers-filled : {table′ : List ℕ} → table′ ≡ over (bodyWords ending c (kinds c) (from text at)) table → Reading text table 0 c table′
-      answers-filled q = rw q (reading-accepted text table (read-fits text table text-read s))
+      answers-filled q = rw q (reading-accepted text table (read-fits text table (body-read text decided (starts t e)) s))

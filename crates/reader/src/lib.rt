@@ -279,13 +279,13 @@ fn judge_body(text: &[u8], at: usize, ending: Ending, counts: Counts) -> Judged
 }
 
 // The first refusal of 1 to 9; or what the first line says, and where a body starts that nothing refuses.
-enum Judgement {
+pub enum Judgement {
     Refused(u32),
     Body(Counts, usize),
 }
 
 // Reader: 1, 2, 3, then line by line (4, 5, 6, then 7 or 8), 9: once over the text, and nothing is written.
-fn judge(text: &[u8], ending: Ending, first: ReadLine) -> Judgement
+pub fn judge(text: &[u8], ending: Ending, first: ReadLine) -> Judgement
     requires { ⌜ LineFound (now text) (firstLine (endingBytes ending) (now text)) first ⌝ }
     ensures { λ r. ⌜ TextJudged (endingBytes ending) (now (text .entry)) r ⌝ }
 {
@@ -363,7 +363,7 @@ fn fill_lines(
 }
 
 // The words of a body that nothing refuses, into the front of the table.
-fn fill(text: &[u8], at: usize, ending: Ending, counts: Counts, table: &mut [u16])
+pub fn fill(text: &[u8], at: usize, ending: Ending, counts: Counts, table: &mut [u16])
     requires { ⌜ Fillable (endingBytes ending) (now text) counts (stand (kinds counts) at 0 (now table)) ⌝ }
     ensures { λ _. ⌜ now (table .exit) ≡ over (bodyWords (endingBytes ending) counts (kinds counts) (from (now (text .entry)) at)) (now (table .entry)) ⌝ }
 {
@@ -388,7 +388,7 @@ pub struct ReadAnswer {
     pub counts: Counts,
 }
 
-fn refused(number: u32) -> ReadAnswer
+pub fn refused(number: u32) -> ReadAnswer
     ensures { λ r. ⌜ (r .number ≡ number) × (r .counts ≡ zeros) ⌝ }
 {
     ReadAnswer {

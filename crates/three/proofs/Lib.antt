@@ -12,4 +12,5 @@ pub mod Subsuming
 pub mod Filling
 pub mod Bytewise
 pub mod Pigeons
+pub mod Numbered
 pub mod GateRule

@@ -1,0 +1,4 @@
+pub mod Rules
+pub mod Reading
+pub mod Closing
+pub mod Determined

@@ -1,0 +1,73 @@
+-- Beginners' boards, computed: texts and tables inside the rules and just outside, and the order of the refusals. Assumes nothing.
+use mathlib.Core.Path.{_≡_, refl}
+use mathlib.Core.List.{List, [], _∷_}
+use Prim.Native.Nat.{ℕ}
+use Prim.Native.String.{String}
+use Rattle.three.specs.Lists.{every, over}
+use Rattle.circuit.specs.declared.Counts.{Counts}
+use Rattle.circuit.specs.Refusal.{refusal, allHold}
+use Rattle.circuit.specs.Table.{ceilingTests, lampTests, several, kinds, width, rowTests, tableTests, literalTests, operandTests, wordTests, boardTests}
+use Rattle.text.specs.Decimal.{isDigit, mayGrow, readOn, readNumber}
+use Rattle.text.specs.Line.{strip, prepend, splitLine}
+use Rattle.text.specs.Outcome.{numberOf, tested, further, onward, leaves}
+use Rattle.text.specs.Text.{fits, owns, resetWord, words, lineTests, ends, readLines, header, countsOf, headerTests, readEnded, endingOf, readText}
+use Rattle.text.specs.Calls.{readInto}
+use Rattle.text.specs.Bench.{bytes}
+use Rattle.beginners.specs.Rules.{smallTests, varies, wellFed, feedTests, beginnersTests}
+use Rattle.beginners.specs.Calls.{readBeginners, bufferTests, chainBeginnersTests}
+
+-- the number, and the table at exit
+unfoldable pub reads : String → List ℕ → List ℕ
+unfolding every over refusal ceilingTests several kinds rowTests literalTests operandTests isDigit mayGrow readOn readNumber strip prepend splitLine numberOf tested further onward leaves fits owns resetWord words lineTests ends readLines header countsOf headerTests readEnded endingOf readText readInto bytes smallTests varies wellFed feedTests beginnersTests readBeginners
+reads text table = numberOf (readBeginners (bytes text) table) ∷ leaves (λ c. over (c .words) table) table (readBeginners (bytes text) table)
+
+unfoldable pub answers : Counts → List ℕ → ℕ → ℕ
+unfolding every refusal allHold ceilingTests lampTests several kinds width rowTests literalTests operandTests tableTests wordTests boardTests smallTests varies wellFed feedTests beginnersTests bufferTests chainBeginnersTests
+answers c table cubes = refusal (chainBeginnersTests c table cubes)
+
+-- T; a latch without a start value; four switches; two operands that are two variables
+pub accepts : (reads "aag 1 0 1 1 0/2 3/2/" (9 ∷ 9 ∷ 9 ∷ 9 ∷ []) ≡ 0 ∷ 3 ∷ 0 ∷ 2 ∷ 9 ∷ [])
+    × (reads "aag 1 0 1 1 0/2 2 2/2/" (9 ∷ 9 ∷ 9 ∷ []) ≡ 0 ∷ 2 ∷ 2 ∷ 2 ∷ [])
+    × (reads "aag 4 4 0 0 0/2/4/6/8/" [] ≡ 0 ∷ [])
+    × (reads "aag 3 2 0 1 1/2/4/6/6 4 2/" (9 ∷ 9 ∷ 9 ∷ []) ≡ 0 ∷ 6 ∷ 4 ∷ 2 ∷ [])
+unfolding reads
+accepts = (refl, refl, refl, refl)
+
+-- a constant lamp, 0 and 1; a constant next literal; a constant operand; one variable twice, as it is and inverted; a fifth switch; a ninth lamp
+pub refuses : (reads "aag 0 0 0 1 0/0/" (9 ∷ []) ≡ 25 ∷ 9 ∷ [])
+    × (reads "aag 0 0 0 1 0/1/" (9 ∷ []) ≡ 25 ∷ 9 ∷ [])
+    × (reads "aag 1 0 1 0 0/2 1/" (9 ∷ 9 ∷ []) ≡ 25 ∷ 9 ∷ 9 ∷ [])
+    × (reads "aag 2 1 0 0 1/2/4 2 1/" (9 ∷ 9 ∷ []) ≡ 25 ∷ 9 ∷ 9 ∷ [])
+    × (reads "aag 2 1 0 0 1/2/4 2 2/" (9 ∷ 9 ∷ []) ≡ 25 ∷ 9 ∷ 9 ∷ [])
+    × (reads "aag 2 1 0 0 1/2/4 2 3/" (9 ∷ 9 ∷ []) ≡ 25 ∷ 9 ∷ 9 ∷ [])
+    × (reads "aag 5 5 0 0 0/2/4/6/8/10/" [] ≡ 25 ∷ [])
+    × (reads "aag 1 1 0 9 0/2/2/2/2/2/2/2/2/2/2/" (9 ∷ 9 ∷ 9 ∷ 9 ∷ 9 ∷ 9 ∷ 9 ∷ 9 ∷ 9 ∷ []) ≡ 25 ∷ 9 ∷ 9 ∷ 9 ∷ 9 ∷ 9 ∷ 9 ∷ 9 ∷ 9 ∷ 9 ∷ [])
+unfolding reads
+refuses = (refl, refl, refl, refl, refl, refl, refl, refl)
+
+-- 10, by the text's own length, and 9 come before 25
+pub reads-in-order : (reads "aag 0 0 0 1 0/0/" [] ≡ 10 ∷ [])
+    × (reads "aag 1 1 0 9 0/2/2/2/2/2/2/2/2/2/2/" (9 ∷ 9 ∷ 9 ∷ 9 ∷ 9 ∷ 9 ∷ 9 ∷ 9 ∷ []) ≡ 10 ∷ 9 ∷ 9 ∷ 9 ∷ 9 ∷ 9 ∷ 9 ∷ 9 ∷ 9 ∷ [])
+    × (reads "aag 0 0 0 1 0/0/x" (9 ∷ []) ≡ 9 ∷ 9 ∷ [])
+unfolding reads
+reads-in-order = (refl, refl, refl)
+
+-- counts I, L, O and A
+abbrev board : ℕ → ℕ → ℕ → ℕ → Counts
+board i l o a = record { inputs = i; latches = l; lamps = o; gates = a }
+
+-- T with the smallest buffer and the largest, and one byte less and more, and with none; 25 before 13, 11 before 25, 10 before 11, 16 before 10, 3 before 16
+pub runs-in-order : (answers (board 0 1 1 0) (3 ∷ 0 ∷ 2 ∷ []) 19683 ≡ 0)
+    × (answers (board 0 1 1 0) (3 ∷ 0 ∷ 2 ∷ []) 65536 ≡ 0)
+    × (answers (board 0 1 1 0) (3 ∷ 0 ∷ 2 ∷ []) 19682 ≡ 13)
+    × (answers (board 0 1 1 0) (3 ∷ 0 ∷ 2 ∷ []) 65537 ≡ 13)
+    × (answers (board 0 1 1 0) (3 ∷ 0 ∷ 2 ∷ []) 0 ≡ 13)
+    × (answers (board 0 1 1 0) (3 ∷ 0 ∷ 1 ∷ []) 0 ≡ 25)
+    × (answers (board 1 0 1 1) (2 ∷ 3 ∷ 2 ∷ []) 19683 ≡ 25)
+    × (answers (board 5 0 1 0) (2 ∷ []) 0 ≡ 25)
+    × (answers (board 0 1 1 0) (1 ∷ 0 ∷ 4 ∷ []) 0 ≡ 11)
+    × (answers (board 0 1 1 0) (1 ∷ 3 ∷ []) 0 ≡ 10)
+    × (answers (board 5 1 0 0) [] 0 ≡ 16)
+    × (answers (board 257 0 0 0) [] 0 ≡ 3)
+unfolding answers
+runs-in-order = (refl, refl, refl, refl, refl, refl, refl, refl, refl, refl, refl, refl)
