@@ -119,6 +119,39 @@ extern "C" {
 /* Where several apply, the first in the order named at the call is given. A refusal answers zeros beside its number and
  * changes no buffer, save 15 (chudravik_chain); 18 names a cube (chudravik_cover). */
 
+/* What to do about a refusal; `./report --explain N` prints a number's line above and its lines here.
+ *  1: leave out what stands behind the line `c`, or hand in a smaller circuit
+ *  2: save the circuit as AIGER ASCII (`aag`, not the binary `aig`), with nothing before the first line, one blank
+ *     between numbers and no leading zeros
+ *  3: count the lines again; every ceiling stands at the top of chudravik.h. A text with unused numbers is for
+ *     chudravik_read_any
+ *  4: look for a line that is missing, has a number too few or too many, a second blank, or another ending than the
+ *     first line has
+ *  5: number the variables from 1 without gaps, inputs, then latches, then gates, in the order of their lines; or read
+ *     with chudravik_read_any
+ *  6: correct the literal: it names a variable that the circuit does not have
+ *  7: put each gate behind the gates that it reads; or read with chudravik_read_any
+ *  8: let the latch start at 0 or 1, or repeat its own literal where it has no start value
+ *  9: end the text behind its last line, or put a line `c` before what follows; names of switches and lamps are not read
+ * 10: lend as many words or bytes as the call names
+ * 11: hand in the counts and the table as they were read, unchanged
+ * 12: choose a smaller w
+ * 13: lend room for one record at least, and CHUDRAVIK_MOST_CUBE_BYTES at most
+ * 14: give each field as 00, 01 or 10, and leave the leftover bits 0
+ * 15: lend CHUDRAVIK_ROOM_BYTES; where that is over the most, choose a smaller w (1 at least) or a circuit with fewer
+ *     latches. The report's own room is enough for 504 latches
+ * 16: draw a lamp: without one there is nothing to judge, and it is no pass
+ * 17: add a cube that holds the start
+ * 18: add a cube that holds the next state of the cube named, or make one larger
+ * 19: hand in the cubes, n and j as chudravik_chain left them, with the circuit that they were made for; only its lamps
+ *     may be others
+ * 20: define each variable once, by an even literal from 2 to 2M
+ * 21: define the variable, or connect what reads it elsewhere
+ * 22: cut the loop, or put a latch into it
+ * 23: name a lamp below the count of lamps
+ * 24: ask of a state in which the lamp's value is known
+ */
+
 /* ---- the calls ---- */
 
 /* I, L, O and A. Any numbers may be handed in. */
