@@ -1,10 +1,10 @@
 -- The refusals of a beginners' run, in order. Assumes nothing.
 use mathlib.Core.Path.{_≡_}
-use mathlib.Core.List.{List, _++_}
+use mathlib.Core.List.{List}
 use Prim.Native.Nat.{ℕ, _<_, _≤_}
 use borrow.Author.Tests.{le-leb, lt-leb}
 use Rattle.circuit.specs.declared.Counts.{Counts}
-use Rattle.circuit.specs.Refusal.{Test, refusal}
+use Rattle.circuit.specs.Refusal.{refusal}
 use Rattle.circuit.specs.Table.{boardTests}
 use Rattle.circuit.proofs.Refusals.{stops, past, none, refuses-whole, none-past}
 use Rattle.circuit.proofs.Legality.{board-numbered}

@@ -15,7 +15,7 @@ ghost use Rattle.circuit.specs.Table.{tableLength};
 ghost use Rattle.text.specs.Text.{header as firstLine, endingOf};
 ghost use Rattle.lines.specs.LinesInCode.{endingBytes, LineFound};
 ghost use Rattle.reader.specs.ReaderInCode.{BodyAt};
-ghost use Rattle.beginners.specs.Rules.{smallTests, varies, wellFed, feedTests, beginnersTests};
+ghost use Rattle.beginners.specs.Rules.{smallTests, varies, wellFed, feedTests};
 ghost use Rattle.beginners.specs.Calls.{ReadingBeginners, chainBeginnersTests, ChainedBeginners};
 ghost use Rattle.beginners.specs.Promise.{AlsoRead, AlwaysCloses};
 

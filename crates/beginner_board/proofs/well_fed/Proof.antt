@@ -1,5 +1,4 @@
 -- `beginner_board::well_fed` meets its contract: its tests are those of the definition, in its order. Assumes nothing.
-use native.Mathlib.Omega.{arith}
 use Rattle.beginners.proofs.Rules.{constant-left, constant-right, variables-apart}
 use borrow.Author.Needs.{needs}
 use Rattle.beginner_board.proofs.well_fed.Statement.{statement}
