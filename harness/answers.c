@@ -4,7 +4,9 @@
  *
  *   read WORDS BYTES TEXT
  *   any TABLEWORDS LISTWORDS BYTES TEXT
+ *   readbinary WORDS BYTES TEXT
  *   write I L O A WORDS w.. BYTES
+ *   writebinary I L O A WORDS w.. BYTES
  *   tick I L O A WORDS w.. STATE b.. SWITCHES b.. NEXT LAMPS
  *   chain I L O A WORDS w.. W CUBES
  *   judge I L O A WORDS w.. CUBES b.. N J VERDICT SETTLED
@@ -12,6 +14,7 @@
  *   why I L O A WORDS w.. STATE b.. LAMP WHY
  *   merge FIELDS A b.. B b.. MERGED
  */
+#include "binary.h"
 #include "drawing.h"
 #include "simulator.h"
 
@@ -222,7 +225,9 @@ static size_t longer(size_t a, size_t b)
 
 static uint16_t given_table[MOST_WORDS];
 
-static void answer_read(line_rest rest)
+typedef chudravik_read_answer reader(const uint8_t *text, size_t text_bytes, uint16_t *table, size_t table_words);
+
+static void answer_read(line_rest rest, const char *name, reader *read)
 {
     static uint8_t text[MOST_BYTES];
     size_t words = take_number(&rest);
@@ -232,8 +237,8 @@ static void answer_read(line_rest rest)
         return;
     }
     uint16_t *table = lend(words * sizeof *table);
-    chudravik_read_answer answer = simulate_read(text, bytes, table, words);
-    printf("read number %u I %zu L %zu O %zu A %zu", (unsigned)answer.number, answer.counts.inputs,
+    chudravik_read_answer answer = read(text, bytes, table, words);
+    printf("%s number %u I %zu L %zu O %zu A %zu", name, (unsigned)answer.number, answer.counts.inputs,
            answer.counts.latches, answer.counts.lamps, answer.counts.gates);
     show_words("table", table, words);
     putchar('\n');
@@ -262,7 +267,10 @@ static void answer_any(line_rest rest)
     free(table);
 }
 
-static void answer_write(line_rest rest)
+typedef chudravik_write_answer writer(chudravik_counts counts, const uint16_t *table, size_t table_words, uint8_t *text,
+                                      size_t text_bytes);
+
+static void answer_write(line_rest rest, const char *name, writer *write)
 {
     chudravik_counts counts = take_counts(&rest);
     size_t words = take_words(&rest, given_table);
@@ -271,8 +279,8 @@ static void answer_write(line_rest rest)
         return;
     }
     uint8_t *text = lend(bytes);
-    chudravik_write_answer answer = simulate_write(counts, given_table, words, text, bytes);
-    printf("write number %u bytes %zu", (unsigned)answer.number, answer.bytes);
+    chudravik_write_answer answer = write(counts, given_table, words, text, bytes);
+    printf("%s number %u bytes %zu", name, (unsigned)answer.number, answer.bytes);
     show_bytes("text", text, bytes);
     putchar('\n');
     free(text);
@@ -421,12 +429,16 @@ static void answer_line(line_rest rest)
     if (peek(&rest) == '#') {
         fwrite(rest.at, 1, (size_t)(rest.end - rest.at), stdout);
         putchar('\n');
+    } else if (skip_name(&rest, "readbinary")) {
+        answer_read(rest, "readbinary", simulate_read_binary);
     } else if (skip_name(&rest, "read")) {
-        answer_read(rest);
+        answer_read(rest, "read", simulate_read);
     } else if (skip_name(&rest, "any")) {
         answer_any(rest);
+    } else if (skip_name(&rest, "writebinary")) {
+        answer_write(rest, "writebinary", simulate_write_binary);
     } else if (skip_name(&rest, "write")) {
-        answer_write(rest);
+        answer_write(rest, "write", simulate_write);
     } else if (skip_name(&rest, "tick")) {
         answer_tick(rest);
     } else if (skip_name(&rest, "chain")) {

@@ -40,7 +40,7 @@ static const plan PLANS[] = {
 
 enum { CIRCUITS = sizeof PLANS / sizeof PLANS[0] };
 
-/* What the calls are given: a circuit in words and as text, a state and a switch setting, w and the lengths, for a judge the
+/* What the calls are given: a circuit in words, as text and in the binary form, a state and a switch setting, w and the lengths, for a judge the
  * circuit's chain, for a cover 512 cubes, and for a why a state in which all latches are known, and a lamp. */
 typedef struct {
     chudravik_counts counts;
@@ -49,6 +49,9 @@ typedef struct {
     uint8_t text[CHUDRAVIK_MOST_TEXT + 1];
     size_t text_bytes;
     size_t text_room;
+    uint8_t binary[CHUDRAVIK_MOST_TEXT + 1];
+    size_t binary_bytes;
+    size_t binary_room;
     uint8_t state[CHUDRAVIK_RECORD_BYTES(CHUDRAVIK_MOST_LATCHES)];
     size_t state_bytes;
     uint8_t switches[CHUDRAVIK_RECORD_BYTES(CHUDRAVIK_MOST_INPUTS)];
@@ -232,6 +235,9 @@ static void make_request(const plan *p, request *r)
     r->cubes_bytes = CHUDRAVIK_MOST_CUBE_BYTES;
     r->verdict_bytes = CHUDRAVIK_RECORD_BYTES(CHUDRAVIK_MOST_LAMPS);
     r->settled_bytes = CHUDRAVIK_RECORD_BYTES(CHUDRAVIK_MOST_LATCHES);
+    r->binary_room = CHUDRAVIK_MOST_BINARY;
+    r->binary_bytes =
+        chudravik_write_binary(r->counts, r->table, r->table_words, r->binary, r->binary_room).bytes;
     r->text_bytes = chudravik_write(r->counts, r->table, r->table_words, r->text, r->text_room).bytes;
     make_chain(r);
     make_cover(r);
@@ -258,6 +264,7 @@ static void make_deepest(const request *largest, request *r)
 typedef struct {
     uint16_t table[CHUDRAVIK_MOST_TABLE_WORDS];
     uint8_t text[CHUDRAVIK_MOST_WRITTEN];
+    uint8_t binary[CHUDRAVIK_MOST_BINARY];
     uint8_t next[CHUDRAVIK_RECORD_BYTES(CHUDRAVIK_MOST_LATCHES)];
     uint8_t lamps[CHUDRAVIK_RECORD_BYTES(CHUDRAVIK_MOST_LAMPS)];
     uint8_t cubes[CHUDRAVIK_MOST_CUBE_BYTES + 1];
@@ -304,6 +311,9 @@ static answer of_cover(chudravik_cover_answer a)
 
 #define READ(side, r, b) of_read(side##_read(r->text, r->text_bytes, b->table, r->table_words))
 #define WRITE(side, r, b) of_write(side##_write(r->counts, r->table, r->table_words, b->text, r->text_room))
+#define READ_BINARY(side, r, b) of_read(side##_read_binary(r->binary, r->binary_bytes, b->table, r->table_words))
+#define WRITE_BINARY(side, r, b)                                                                                \
+    of_write(side##_write_binary(r->counts, r->table, r->table_words, b->binary, r->binary_room))
 #define TICK(side, r, b)                                                                                        \
     of_tick(side##_tick(r->counts, r->table, r->table_words, r->state, r->state_bytes, r->switches,             \
                         r->switches_bytes, b->next, r->settled_bytes, b->lamps, r->verdict_bytes))
@@ -328,6 +338,8 @@ static answer of_cover(chudravik_cover_answer a)
 
 SIDE(library_read, READ, chudravik)
 SIDE(library_write, WRITE, chudravik)
+SIDE(library_read_binary, READ_BINARY, chudravik)
+SIDE(library_write_binary, WRITE_BINARY, chudravik)
 SIDE(library_tick, TICK, chudravik)
 SIDE(library_chain, CHAIN, chudravik)
 SIDE(library_judge, JUDGE, chudravik)
@@ -336,6 +348,8 @@ SIDE(library_why, WHY, chudravik)
 SIDE(library_merge, MERGE, chudravik)
 SIDE(c_read, READ, plain)
 SIDE(c_write, WRITE, plain)
+SIDE(c_read_binary, READ_BINARY, plain)
+SIDE(c_write_binary, WRITE_BINARY, plain)
 SIDE(c_tick, TICK, plain)
 SIDE(c_chain, CHAIN, plain)
 SIDE(c_judge, JUDGE, plain)
@@ -367,6 +381,8 @@ typedef struct {
 static const pair READING = {"read", library_read, c_read};
 static const pair READING_OFFICE = {"read13", library_read, c_read};
 static const pair WRITING = {"write", library_write, c_write};
+static const pair READING_BINARY = {"read b", library_read_binary, c_read_binary};
+static const pair WRITING_BINARY = {"writeb", library_write_binary, c_write_binary};
 static const pair TICKING = {"tick", library_tick, c_tick};
 static const pair CHAINING = {"chain", library_chain, c_chain};
 static const pair JUDGING = {"judge", library_judge, c_judge};
@@ -436,10 +452,48 @@ static void check_texts(const request *sound)
     expect_text(&r, "aag 0 0 0 0 0\nc", CHUDRAVIK_TRAILING); /* the newline still stands behind it */
 }
 
+static void expect_binary(request *r, const char *bytes, size_t count, uint32_t number)
+{
+    r->binary_bytes = count;
+    memcpy(r->binary, bytes, count);
+    expect(&READING_BINARY, r, number);
+}
+
+#define EXPECT_BINARY(r, bytes, number) expect_binary(r, bytes, sizeof bytes - 1, number)
+
+static void check_binaries(const request *sound)
+{
+    static request r;
+    r = *sound;
+    r.binary_bytes = CHUDRAVIK_MOST_TEXT + 1;
+    expect(&READING_BINARY, &r, CHUDRAVIK_TEXT_TOO_LONG);
+    r = *sound;
+    r.table_words = 0;
+    expect(&READING_BINARY, &r, CHUDRAVIK_TOO_SHORT);
+    r = *sound;
+    r.binary_room = r.binary_bytes - 1;
+    expect(&WRITING_BINARY, &r, CHUDRAVIK_TOO_SHORT);
+    r = *sound;
+    EXPECT_BINARY(&r, "aag 0 0 0 0 0\n", CHUDRAVIK_FIRST_LINE);
+    EXPECT_BINARY(&r, "aig 0 0 0 0 0\r\n", CHUDRAVIK_FIRST_LINE);
+    EXPECT_BINARY(&r, "aig 2 1 0 0 0\n", CHUDRAVIK_COUNTS);
+    EXPECT_BINARY(&r, "aig 1 0 1 0 0\n2 2 2\n", CHUDRAVIK_BODY_LINE);
+    EXPECT_BINARY(&r, "aig 1 0 1 0 0\n4\n", CHUDRAVIK_LITERAL_TOO_LARGE);
+    EXPECT_BINARY(&r, "aig 1 0 1 0 0\n2 3\n", CHUDRAVIK_RESET);
+    EXPECT_BINARY(&r, "aig 1 0 1 0 0\n2 2\n", CHUDRAVIK_ACCEPTED);
+    EXPECT_BINARY(&r, "aig 2 1 0 0 1\n\2", CHUDRAVIK_DIFFERENCE);
+    EXPECT_BINARY(&r, "aig 2 1 0 0 1\n\2\200\0", CHUDRAVIK_DIFFERENCE);
+    EXPECT_BINARY(&r, "aig 2 1 0 0 1\n\0\2", CHUDRAVIK_OPERAND_NOT_BELOW);
+    EXPECT_BINARY(&r, "aig 2 1 0 0 1\n\2\3", CHUDRAVIK_OPERAND_NOT_BELOW);
+    EXPECT_BINARY(&r, "aig 2 1 0 0 1\n\2\2x", CHUDRAVIK_TRAILING);
+    EXPECT_BINARY(&r, "aig 2 1 0 0 1\n\2\2c\n", CHUDRAVIK_ACCEPTED);
+}
+
 /* The refusals of every call that is given a circuit. */
 static void check_circuits(const request *sound)
 {
-    static const pair *const GIVEN[] = {&WRITING, &TICKING, &CHAINING, &JUDGING, &COVERING, &ASKING};
+    static const pair *const GIVEN[] = {&WRITING, &WRITING_BINARY, &TICKING, &CHAINING,
+                                         &JUDGING, &COVERING,       &ASKING};
     static request r;
     for (size_t i = 0; i < sizeof GIVEN / sizeof GIVEN[0]; i++) {
         r = *sound;
@@ -651,6 +705,11 @@ static double bytes_of_text(size_t i)
     return (double)requests[i].text_bytes;
 }
 
+static double bytes_of_binary(size_t i)
+{
+    return (double)requests[i].binary_bytes;
+}
+
 static double words_of_table(size_t i)
 {
     const chudravik_counts *c = &requests[i].counts;
@@ -676,8 +735,9 @@ static void print_circuit(size_t i)
 {
     const chudravik_counts *c = &requests[i].counts;
     const size_t *run = runs[i].numbers;
-    printf("%-8s I %zu, L %zu, O %zu, A %zu; text of %zu bytes; with w = %d: n %zu, j %zu, s %zu\n", PLANS[i].name,
-           c->inputs, c->latches, c->lamps, c->gates, requests[i].text_bytes, INTERVAL, run[1], run[2], run[3]);
+    printf("%-8s I %zu, L %zu, O %zu, A %zu; text of %zu bytes, binary of %zu; with w = %d: n %zu, j %zu, s %zu\n",
+           PLANS[i].name, c->inputs, c->latches, c->lamps, c->gates, requests[i].text_bytes, requests[i].binary_bytes,
+           INTERVAL, run[1], run[2], run[3]);
 }
 
 static void check_all(void)
@@ -686,6 +746,8 @@ static void check_all(void)
         make_request(&PLANS[i], &requests[i]);
         expect(&READING, &requests[i], CHUDRAVIK_ACCEPTED);
         expect(&WRITING, &requests[i], CHUDRAVIK_ACCEPTED);
+        expect(&READING_BINARY, &requests[i], CHUDRAVIK_ACCEPTED);
+        expect(&WRITING_BINARY, &requests[i], CHUDRAVIK_ACCEPTED);
         expect(&TICKING, &requests[i], CHUDRAVIK_ACCEPTED);
         expect(&CHAINING, &requests[i], CHUDRAVIK_ACCEPTED);
         expect(&JUDGING, &requests[i], CHUDRAVIK_ACCEPTED);
@@ -702,6 +764,7 @@ static void check_all(void)
         expect(&READING, &saved[i], CHUDRAVIK_ACCEPTED);
     }
     check_texts(&requests[0]);
+    check_binaries(&requests[0]);
     check_circuits(&requests[0]);
     check_lengths(&requests[0]);
     check_records(&requests[0]);
@@ -756,6 +819,8 @@ int main(int argc, char **argv)
     report(&READING, requests, CIRCUITS, bytes_of_text, "bytes of text", rounds, NULL);
     report(&READING_OFFICE, saved, SAVED, bytes_of_text, "bytes of text", rounds, NULL);
     report(&WRITING, requests, CIRCUITS, bytes_of_text, "bytes of text", rounds, NULL);
+    report(&READING_BINARY, requests, CIRCUITS, bytes_of_binary, "bytes of binary text", rounds, NULL);
+    report(&WRITING_BINARY, requests, CIRCUITS, bytes_of_binary, "bytes of binary text", rounds, NULL);
     report(&TICKING, requests, CIRCUITS, words_of_table, "words of table", rounds, NULL);
     double judge[CIRCUITS], both[CIRCUITS];
     report(&CHAINING, requests, CIRCUITS, words_times_cubes, "words x cubes", rounds, NULL);

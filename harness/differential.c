@@ -26,6 +26,7 @@ enum {
     WORDS_CEILING = 2 * LATCHES_CEILING + LAMPS_CEILING + 2 * GATES_CEILING,
     TEXT_CEILING = 60000,
     WRITTEN_CEILING = 58415,
+    BINARY_CEILING = 18530,
     NO_START = 2,
     CUBES_CEILING = 65536,
     LONGEST_TEXT = 70000 /* that is made here, so that 1 is met too */
@@ -222,15 +223,15 @@ static void set_random_lamps(circuit *c)
 }
 
 /* Every count at its ceiling, every literal with as many digits as there are, every reset shown; and the gates in one
- * chain, or not. */
+ * chain, or not, or with operands so far apart that each difference takes two bytes. */
 static void make_widest_circuit(circuit *c)
 {
-    bool chained = chance(50);
+    bool chained = chance(35), apart = !chained && chance(50);
     c->counts = (chudravik_counts){INPUTS_CEILING, LATCHES_CEILING, LAMPS_CEILING, 0};
     while (c->counts.gates < GATES_CEILING) {
-        size_t last = gate_literal(c, c->counts.gates) - 1;
-        size_t left = chained ? last - below(2) : between(1000, last);
-        add_gate(c, left, between(1000, last));
+        size_t own = gate_literal(c, c->counts.gates);
+        size_t left = chained ? own - 1 - below(2) : apart ? between(1128, own - 128) : between(1000, own - 1);
+        add_gate(c, left, between(1000, apart ? left - 128 : own - 1));
     }
     for (size_t i = 0; i < LATCHES_CEILING; i++) {
         c->next[i] = (uint16_t)between(1000, top_literal(c));
@@ -689,6 +690,74 @@ static void append_circuit(text *t, const circuit *c, unsigned zero_resets_perce
     append_body(t, c, zero_resets_percent);
 }
 
+/* ---- binary texts ---- */
+
+static void append_byte(text *t, size_t byte)
+{
+    uint8_t one = (uint8_t)byte;
+    append(t, &one, 1);
+}
+
+static void append_difference(text *t, size_t difference)
+{
+    if (difference >= 128)
+        append_byte(t, 128 + difference % 128);
+    append_byte(t, difference < 128 ? difference : difference / 128 % 128);
+}
+
+/* One that should not be: a needless zero group, three bytes, or none at all behind it. */
+static void append_bad_difference(text *t, size_t difference)
+{
+    static const uint8_t third[] = {0x00, 0x01, 0x7F, 0x80};
+    append_byte(t, 128 + difference % 128);
+    if (chance(40)) {
+        append_byte(t, 0);
+        return;
+    }
+    append_byte(t, 128 + difference / 128 % 128);
+    append_byte(t, third[below(sizeof third)]);
+}
+
+/* Differences at their edges, some of them still good; or one that cannot be, alone or behind another fault. */
+static void append_edge_gate(text *t, size_t own)
+{
+    size_t first = ONE_OF(0, 1, own, own + 1, own - 1, 127, 128, 16383, below(own)), operand = own - least_of(first, own);
+    size_t second = ONE_OF(0, operand, operand + 1, operand + 2, 127, 128, 16383, below(operand + 1));
+    bool first_bad = chance(25), second_bad = !first_bad && chance(30);
+    if (first_bad)
+        append_bad_difference(t, first);
+    else
+        append_difference(t, first);
+    if (second_bad)
+        append_bad_difference(t, second);
+    else
+        append_difference(t, second);
+}
+
+/* One gate, where there is such a number, at its edges. */
+static void append_binary(text *t, const circuit *c, unsigned zero_resets_percent, size_t edge)
+{
+    append_first_line(t, variables(c), c->counts);
+    t->byte[t->count == 0 ? 0 : 1] = 'i';
+    for (size_t i = 0; i < c->counts.latches; i++) {
+        bool reset_shown = c->reset[i] != 0 || chance(zero_resets_percent);
+        append_number(t, c->next[i], reset_shown ? ' ' : '\n');
+        if (reset_shown)
+            append_number(t, c->reset[i] == NO_START ? latch_literal(c, i) : c->reset[i], '\n');
+    }
+    for (size_t i = 0; i < c->counts.lamps; i++)
+        append_number(t, c->lamp[i], '\n');
+    for (size_t i = 0; i < c->counts.gates; i++) {
+        size_t left = c->operand[i][0], right = c->operand[i][1], larger = left > right ? left : right;
+        if (i == edge) {
+            append_edge_gate(t, gate_literal(c, i));
+            continue;
+        }
+        append_difference(t, (gate_literal(c, i) - larger) % 16384);
+        append_difference(t, larger - least_of(left, right));
+    }
+}
+
 /* ---- texts: damaged ---- */
 
 /* Anywhere, with the first line and the end more often than they would be in a long text. */
@@ -945,6 +1014,33 @@ static void make_text(text *t, circuit *c)
         damage(t, c);
 }
 
+/* The line endings and numbers that other damages change stand in front of the gates, whose bytes may be any. */
+static void make_binary(text *t, circuit *c)
+{
+    t->count = 0;
+    if (chance(1))
+        return;
+    if (chance(2)) {
+        make_noise_text(t);
+        return;
+    }
+    if (chance(15))
+        damage_circuit(c);
+    append_binary(t, c, (unsigned)ONE_OF(0, 30, 100), chance(25) ? below(c->counts.gates) : SIZE_MAX);
+    if (chance(15))
+        append_comment(t, below(40));
+    else if (chance(6))
+        append_tail(t);
+    if (chance(3))
+        lengthen(t);
+    for (size_t times = chance(40) ? between(1, 3) : 0; times > 0; times--)
+        damage(t, c);
+    if (t->count > 1 && chance(95))
+        t->byte[1] = 'i';
+    if (chance(6) && t->count > 0)
+        t->count -= between(1, least_of(t->count, 6));
+}
+
 /* ---- records ---- */
 
 static size_t record_bytes(size_t fields)
@@ -995,7 +1091,7 @@ static void lend_record(enum role role, size_t fields)
 /* ---- what was met ---- */
 
 /* The numbers as they are, but 10 by what was too short. */
-enum { MOST_NUMBER = 24, TEN_TABLE, TEN_GIVEN, TEN_RESULT, OUTCOMES };
+enum { MOST_NUMBER = 26, TEN_TABLE, TEN_GIVEN, TEN_RESULT, OUTCOMES };
 
 static uint64_t met[CALLS][OUTCOMES];
 
@@ -1007,7 +1103,10 @@ static bool can_give(enum call call, size_t outcome)
     case READ_ANY:
         return (outcome <= 9 && outcome != 5 && outcome != 7) || (outcome >= 20 && outcome <= 22) ||
                outcome == TEN_TABLE || outcome == TEN_RESULT;
+    case READ_BINARY:
+        return (outcome <= 9 && outcome != 5) || outcome == 26 || outcome == TEN_TABLE;
     case WRITE:
+    case WRITE_BINARY:
         return outcome == 0 || outcome == 3 || outcome == 11 || outcome == TEN_TABLE || outcome == TEN_RESULT;
     case TICK:
         return outcome == 0 || outcome == 3 || outcome == 11 || outcome == 14 || outcome >= TEN_TABLE;
@@ -1074,6 +1173,8 @@ enum sight {
     WHY_DEEP,
     WHY_LIT,
     WHY_DARK,
+    BINARY_BACK,
+    BINARY_LONGEST,
     MERGE_ALIKE,
     MERGE_NOTHING,
     MERGE_LONGEST,
@@ -1117,6 +1218,8 @@ static const char *const sight_names[SIGHTS] = {
     "lamps explained through 1,000 gates or more",
     "lamps explained that are lit",
     "lamps explained that are dark",
+    "tables written in the binary form and read back with their operands ordered",
+    "binary texts of 18,530 bytes written",
     "merges of a record with itself",
     "merges that leave nothing known of what both know",
     "merges of 512 fields",
@@ -1166,6 +1269,60 @@ static void must_write_and_read_alike(chudravik_counts counts, const uint16_t *t
     must_read_as(written, answer.bytes, counts, table);
 }
 
+static void order_operands(chudravik_counts counts, const uint16_t *table, uint16_t *ordered)
+{
+    uint16_t *gate = ordered + 2 * counts.latches + counts.lamps;
+    memcpy(ordered, table, words_of(counts) * sizeof *ordered);
+    for (size_t i = 0; i < counts.gates; i++, gate += 2)
+        if (gate[0] < gate[1]) {
+            uint16_t smaller = gate[0];
+            gate[0] = gate[1];
+            gate[1] = smaller;
+        }
+}
+
+/* Some state under some switches gives the same in both tables. */
+static void must_behave_alike(chudravik_counts counts, const uint16_t *table, const uint16_t *other)
+{
+    uint8_t state[LATCHES_CEILING] = {0}, switches[INPUTS_CEILING] = {0}, next[2][LATCHES_CEILING], lamps[2][LAMPS_CEILING];
+    for (size_t i = 0; i < counts.latches; i++)
+        set_pair(state, i, below(3));
+    for (size_t i = 0; i < counts.inputs; i++)
+        set_pair(switches, i, below(3));
+    for (size_t which = 0; which < 2; which++)
+        if (chudravik_tick(counts, which == 0 ? table : other, words_of(counts), state, sizeof state, switches,
+                           sizeof switches, next[which], LATCHES_CEILING, lamps[which], LAMPS_CEILING) != 0)
+            fail("a table that was read or written is refused by the tick");
+    if (memcmp(next[0], next[1], record_bytes(counts.latches)) != 0 ||
+        memcmp(lamps[0], lamps[1], record_bytes(counts.lamps)) != 0)
+        fail("with its operands ordered the table behaves otherwise");
+}
+
+/* The binary text of a table reads back with its operands ordered, is written again the same, and as text it is the text of
+ * the ordered table. */
+static void must_cross(chudravik_counts counts, const uint16_t *table)
+{
+    static uint16_t word[WORDS_CEILING], ordered[WORDS_CEILING];
+    static uint8_t binary[BINARY_CEILING], again[BINARY_CEILING], written[2][WRITTEN_CEILING];
+    chudravik_write_answer made = chudravik_write_binary(counts, table, words_of(counts), binary, sizeof binary);
+    if (made.number != 0)
+        fail("a sound table is not written in the binary form: %" PRIu32, made.number);
+    chudravik_read_answer read = chudravik_read_binary(binary, made.bytes, word, words_of(counts));
+    order_operands(counts, table, ordered);
+    if (read.number != 0 || memcmp(&read.counts, &counts, sizeof counts) != 0 ||
+        (words_of(counts) != 0 && memcmp(word, ordered, words_of(counts) * sizeof *word) != 0))
+        fail("the binary text is not read as the table with its operands ordered: %" PRIu32, read.number);
+    chudravik_write_answer second = chudravik_write_binary(counts, word, words_of(counts), again, sizeof again);
+    if (second.number != 0 || second.bytes != made.bytes || memcmp(again, binary, made.bytes) != 0)
+        fail("with its operands ordered the table has another binary text");
+    chudravik_write_answer as_text = chudravik_write(counts, word, words_of(counts), written[0], WRITTEN_CEILING);
+    chudravik_write_answer due = chudravik_write(counts, ordered, words_of(counts), written[1], WRITTEN_CEILING);
+    if (as_text.number != 0 || as_text.bytes != due.bytes || memcmp(written[0], written[1], due.bytes) != 0)
+        fail("the binary text gives another text");
+    must_behave_alike(counts, table, word);
+    see(BINARY_BACK, true);
+}
+
 static void try_read(circuit *c)
 {
     static text t;
@@ -1178,8 +1335,25 @@ static void try_read(circuit *c)
     note(READ, hand.library.number, TEN_TABLE);
     see_size(hand.library.number, hand.library.counts);
     see(OFFICE_READ, hand.library.number == 0 && t.byte[line_behind(&t, 0) - 2] == '\r');
+    if (hand.library.number != 0)
+        return;
+    must_write_and_read_alike(hand.library.counts, library_table(&hand));
+    must_cross(hand.library.counts, library_table(&hand));
+}
+
+static void try_read_binary(circuit *c)
+{
+    static text t;
+    make_circuit(c, 15);
+    twice_begin(&hand, READ_BINARY, c->counts, (numbers){0});
+    make_binary(&t, c);
+    lend_given(TEXT, t.byte, t.count);
+    lend_noise(TABLE, 2 * table_length_for(c));
+    make_call();
+    note(READ_BINARY, hand.library.number, TEN_TABLE);
+    see_size(hand.library.number, hand.library.counts);
     if (hand.library.number == 0)
-        must_write_and_read_alike(hand.library.counts, library_table(&hand));
+        must_cross(hand.library.counts, library_table(&hand));
 }
 
 /* An operand that is not below its gate, so that there may be a loop. */
@@ -1244,6 +1418,32 @@ static void try_write(circuit *c)
     see(LONGEST_WRITTEN, hand.library.bytes == WRITTEN_CEILING);
     if (hand.library.number == 0)
         must_read_as(of_library(&hand, TEXT), hand.library.bytes, counts, library_table(&hand));
+}
+
+static size_t binary_length_for(const circuit *c)
+{
+    static text t;
+    t.count = 0;
+    append_binary(&t, c, 0, SIZE_MAX);
+    return chance(4) ? BINARY_CEILING - below(2) : length_for(t.count);
+}
+
+static void try_write_binary(circuit *c)
+{
+    if (chance(4)) /* so that the longest is met */
+        make_widest_circuit(c);
+    else
+        make_circuit(c, 15);
+    chudravik_counts counts = handed_counts(c);
+    twice_begin(&hand, WRITE_BINARY, counts, (numbers){0});
+    lend_table(c);
+    lend_noise(TEXT, binary_length_for(c));
+    make_call();
+    note(WRITE_BINARY, hand.library.number, table_words(&hand) < words_of(counts) ? TEN_TABLE : TEN_RESULT);
+    see_size(hand.library.number, counts);
+    see(BINARY_LONGEST, hand.library.bytes == BINARY_CEILING);
+    if (hand.library.number == 0)
+        must_cross(counts, library_table(&hand));
 }
 
 static size_t ten_of_tick(chudravik_counts counts)
@@ -2028,7 +2228,7 @@ static void try_call(uint64_t number)
     number_in_hand = number;
     throw_dice(seed, number);
     set_trouble();
-    size_t roll = below(116);
+    size_t roll = below(140);
     if (roll < 28)
         try_read(&c);
     else if (roll < 38)
@@ -2045,8 +2245,12 @@ static void try_call(uint64_t number)
         try_cover(&c);
     else if (roll < 110)
         try_why(&c);
-    else
+    else if (roll < 116)
         try_merge();
+    else if (roll < 130)
+        try_read_binary(&c);
+    else
+        try_write_binary(&c);
 }
 
 /* ---- at the end ---- */
@@ -2066,20 +2270,20 @@ static void print_outcome(const char *name, size_t outcome)
 {
     if (!is_given(outcome))
         return;
-    printf("%-12s", name);
+    printf("%-10s", name);
     for (size_t call = 0; call < CALLS; call++)
         if (can_give((enum call)call, outcome))
-            printf("%10" PRIu64, met[call][outcome]);
+            printf("%13" PRIu64, met[call][outcome]);
         else
-            printf("%10s", "-");
+            printf("%13s", "-");
     putchar('\n');
 }
 
 static void print_met(void)
 {
-    printf("%-12s", "number");
+    printf("%-10s", "number");
     for (size_t call = 0; call < CALLS; call++)
-        printf("%10s", call_names[call]);
+        printf("%13s", call_names[call]);
     putchar('\n');
     for (size_t number = 0; number <= MOST_NUMBER; number++) {
         char name[8];

@@ -97,12 +97,22 @@ static void lend_bytes(twice *t, const string_rest *rest, enum role role, size_t
 
 /* ---- the calls ---- */
 
-static void lay_read(twice *t, string_rest *rest)
+static void lay_reader(twice *t, string_rest *rest, enum call call)
 {
-    twice_begin(t, READ, (chudravik_counts){0}, (numbers){0});
+    twice_begin(t, call, (chudravik_counts){0}, (numbers){0});
     lend_bytes(t, rest, TABLE, take_words_bytes(rest));
     size_t least = take_length(rest);
     give_text(t, rest, least);
+}
+
+static void lay_read(twice *t, string_rest *rest)
+{
+    lay_reader(t, rest, READ);
+}
+
+static void lay_read_binary(twice *t, string_rest *rest)
+{
+    lay_reader(t, rest, READ_BINARY);
 }
 
 static void lay_read_any(twice *t, string_rest *rest)
@@ -114,12 +124,22 @@ static void lay_read_any(twice *t, string_rest *rest)
     give_text(t, rest, least);
 }
 
-static void lay_write(twice *t, string_rest *rest)
+static void lay_writer(twice *t, string_rest *rest, enum call call)
 {
-    twice_begin(t, WRITE, take_counts(rest), (numbers){0});
+    twice_begin(t, call, take_counts(rest), (numbers){0});
     size_t table_bytes = take_words_bytes(rest);
     lend_bytes(t, rest, TEXT, take_length(rest));
     give_table(t, rest, table_bytes);
+}
+
+static void lay_write(twice *t, string_rest *rest)
+{
+    lay_writer(t, rest, WRITE);
+}
+
+static void lay_write_binary(twice *t, string_rest *rest)
+{
+    lay_writer(t, rest, WRITE_BINARY);
 }
 
 static void lay_tick(twice *t, string_rest *rest)
@@ -207,7 +227,7 @@ typedef void layer(twice *t, string_rest *rest);
 static layer *layer_of(uint8_t first)
 {
     static layer *const older[] = {lay_read, lay_write, lay_tick, lay_run};
-    static layer *const newer[] = {lay_read_any, lay_judge, lay_why, lay_merge};
+    static layer *const newer[] = {lay_read_any, lay_judge, lay_why, lay_merge, lay_read_binary, lay_write_binary};
     if (first >> 4 != 0)
         return newer[((first >> 4) - 1) % (sizeof newer / sizeof newer[0])];
     return first & 8 ? lay_cover : older[first & 3];

@@ -1,10 +1,15 @@
-/* Circuits that another tool has written: foreign FILE..
+/* Circuits that other tools have written: foreign FILE.aag..
+ *                                         foreign --binary FILE.aag
  *
  * Each file must be read; written back, it must be the same text up to its comment; that text must read to the same
  * counts and words, and so must the file with bytes 13 and 10 at the end of each line, but not with the ending of one
  * line alone changed; and the report program's chain (w = 16, 65,536 bytes) must close, and then be judged, or be refused
- * by 15. One line a file
- * goes to standard output, to be compared with the stored ones. Exits 1 on any failure. */
+ * by 15. Beside FILE.aag stands FILE.aig, the same circuit in the binary form by the same tool, which must be read as that
+ * table with its operands larger first, and FILE.abc.aig, which a third tool made of it; what is written of either must be
+ * the same bytes up to the comment. One line a file
+ * goes to standard output, to be compared with the stored ones. Exits 1 on any failure.
+ *
+ * With --binary the file's circuit goes to standard output in the binary form, for another tool to look at. */
 #include <stdio.h>
 #include <string.h>
 
@@ -21,6 +26,8 @@ static uint16_t table_again[CHUDRAVIK_MOST_TABLE_WORDS];
 static uint8_t cubes[CHUDRAVIK_MOST_CUBE_BYTES];
 static uint8_t verdict[CHUDRAVIK_RECORD_BYTES(CHUDRAVIK_MOST_LAMPS)];
 static uint8_t settled[CHUDRAVIK_RECORD_BYTES(CHUDRAVIK_MOST_LATCHES)];
+
+static uint8_t binary[CHUDRAVIK_MOST_BINARY];
 
 static int failed(const char *path, const char *what, size_t number)
 {
@@ -71,6 +78,12 @@ static int same_when_written(const char *path, chudravik_counts counts, size_t t
     return 1;
 }
 
+static int same_counts(chudravik_counts one, chudravik_counts other)
+{
+    return one.inputs == other.inputs && one.latches == other.latches && one.lamps == other.lamps &&
+           one.gates == other.gates;
+}
+
 static int same_when_read_again(const char *path, chudravik_counts counts, size_t written_bytes)
 {
     size_t words = CHUDRAVIK_TABLE_WORDS(counts.latches, counts.lamps, counts.gates);
@@ -78,8 +91,7 @@ static int same_when_read_again(const char *path, chudravik_counts counts, size_
     chudravik_read_answer again = chudravik_read(written, written_bytes, table_again, words);
     if (again.number != CHUDRAVIK_ACCEPTED)
         return failed(path, "refused when read again", again.number);
-    if (again.counts.inputs != counts.inputs || again.counts.latches != counts.latches ||
-        again.counts.lamps != counts.lamps || again.counts.gates != counts.gates)
+    if (!same_counts(again.counts, counts))
         return failed(path, "read again with other counts", 0);
     if (memcmp(table, table_again, words * sizeof table[0]) != 0)
         return failed(path, "read again with other words", 0);
@@ -118,7 +130,7 @@ static int one_ending_throughout(const char *path, chudravik_counts counts, size
     size_t body_lines = counts.inputs + counts.latches + counts.lamps + counts.gates;
     size_t lines = lines_of(bytes_before_comment(text_bytes)) + (bytes_before_comment(text_bytes) < text_bytes);
     chudravik_read_answer answer = chudravik_read(saved, save_at_the_office(text_bytes, 1, SIZE_MAX), table_again, words);
-    if (answer.number != CHUDRAVIK_ACCEPTED || memcmp(&answer.counts, &counts, sizeof counts) != 0 ||
+    if (answer.number != CHUDRAVIK_ACCEPTED || !same_counts(answer.counts, counts) ||
         memcmp(table_again, table, words * sizeof *table) != 0)
         return failed(path, "another circuit with bytes 13 and 10", answer.number);
     for (int office = 0; office <= 1; office++)
@@ -129,6 +141,68 @@ static int one_ending_throughout(const char *path, chudravik_counts counts, size
                 return failed(path, "another number with the ending of this line changed", odd);
         }
     return 1;
+}
+
+/* The name of a file beside this one: what stands behind the last point is another. */
+static const char *beside(const char *path, const char *ending)
+{
+    static char name[4096];
+    const char *point = strrchr(path, '.');
+    snprintf(name, sizeof name, "%.*s%s", (int)(point == NULL ? 0 : point - path), path, ending);
+    return name;
+}
+
+/* Loads and reads a binary file, into the table for the second reading; what is written of it is the same again. */
+static int same_when_written_binary(const char *path, chudravik_counts *counts)
+{
+    size_t bytes = 0;
+    if (!load(path, &bytes))
+        return 0;
+    chudravik_read_answer read = chudravik_read_binary(text, bytes, table_again, CHUDRAVIK_MOST_TABLE_WORDS);
+    if (read.number != CHUDRAVIK_ACCEPTED)
+        return failed(path, "refused by the reader", read.number);
+    *counts = read.counts;
+    chudravik_write_answer made =
+        chudravik_write_binary(*counts, table_again, CHUDRAVIK_MOST_TABLE_WORDS, binary, sizeof binary);
+    if (made.number != CHUDRAVIK_ACCEPTED || made.bytes > bytes || memcmp(binary, text, made.bytes) != 0)
+        return failed(path, "written with other bytes", made.number);
+    if (made.bytes < bytes && text[made.bytes] != 'c')
+        return failed(path, "written with another length", made.bytes);
+    return 1;
+}
+
+/* The table of the text, larger operands first, is the table of its binary twin. */
+static int same_twin(const char *path, chudravik_counts counts)
+{
+    size_t words = CHUDRAVIK_TABLE_WORDS(counts.latches, counts.lamps, counts.gates), gates = words - 2 * counts.gates;
+    chudravik_counts twin, third;
+    if (!same_when_written_binary(beside(path, ".aig"), &twin))
+        return 0;
+    if (!same_counts(twin, counts))
+        return failed(path, "other counts in the binary form", 0);
+    for (size_t i = 0; i < words; i++) {
+        size_t other = i < gates ? i : gates + ((i - gates) ^ 1);
+        uint16_t larger = table[i] > table[other] ? table[i] : table[other];
+        uint16_t smaller = table[i] > table[other] ? table[other] : table[i];
+        if (table_again[i] != (i < gates || (i - gates) % 2 == 0 ? larger : smaller))
+            return failed(path, "another word in the binary form", i);
+    }
+    if (!same_when_written_binary(beside(path, ".abc.aig"), &third))
+        return 0;
+    return third.inputs >= counts.inputs && third.lamps == counts.lamps ? 1 : failed(path, "other lamps in the third form", 0);
+}
+
+static int write_binary(const char *path)
+{
+    size_t text_bytes = 0;
+    if (!load(path, &text_bytes))
+        return 0;
+    chudravik_read_answer read = chudravik_read(text, text_bytes, table, CHUDRAVIK_MOST_TABLE_WORDS);
+    if (read.number != CHUDRAVIK_ACCEPTED)
+        return failed(path, "refused by the reader", read.number);
+    chudravik_write_answer made =
+        chudravik_write_binary(read.counts, table, CHUDRAVIK_MOST_TABLE_WORDS, binary, sizeof binary);
+    return made.number == CHUDRAVIK_ACCEPTED && fwrite(binary, 1, made.bytes, stdout) == made.bytes;
 }
 
 static int print_verdicts(const char *path, size_t lamps)
@@ -175,15 +249,18 @@ static int examine(const char *path)
         return failed(path, "refused by the reader", answer.number);
     return same_when_written(path, answer.counts, text_bytes, &written_bytes) &&
            same_when_read_again(path, answer.counts, written_bytes) &&
-           one_ending_throughout(path, answer.counts, text_bytes) && report_run(path, answer.counts);
+           one_ending_throughout(path, answer.counts, text_bytes) && same_twin(path, answer.counts) &&
+           report_run(path, answer.counts);
 }
 
 int main(int argc, char **argv)
 {
     if (argc < 2) {
-        fprintf(stderr, "usage: foreign FILE..\n");
+        fprintf(stderr, "usage: foreign FILE.aag.. | foreign --binary FILE.aag\n");
         return 1;
     }
+    if (argc == 3 && strcmp(argv[1], "--binary") == 0)
+        return write_binary(argv[2]) && fflush(stdout) == 0 ? 0 : 1;
     int good = 1;
     for (int i = 1; i < argc; i++)
         good &= examine(argv[i]);

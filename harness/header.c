@@ -53,6 +53,21 @@ static int writes_back(chudravik_counts counts)
            memcmp(written, text, write.bytes) == 0;
 }
 
+/* The table has its operands larger first; a byte less, and the last difference is cut off. */
+static int crosses(chudravik_counts counts)
+{
+    static const uint8_t due[] = {'a', 'i', 'g', ' ', '3', ' ', '0', ' ', '2', ' ', '1', ' ', '1', '\n',
+                                  '4', '\n', '2', ' ', '1', '\n', '6', '\n', 2, 2};
+    static uint8_t binary[CHUDRAVIK_MOST_BINARY];
+    static uint16_t same[CHUDRAVIK_MOST_TABLE_WORDS];
+    chudravik_write_answer write =
+        chudravik_write_binary(counts, table, CHUDRAVIK_MOST_TABLE_WORDS, binary, sizeof binary);
+    chudravik_read_answer read = chudravik_read_binary(binary, write.bytes, same, CHUDRAVIK_MOST_TABLE_WORDS);
+    chudravik_read_answer cut = chudravik_read_binary(due, sizeof due - 1, same, CHUDRAVIK_MOST_TABLE_WORDS);
+    return write.number == CHUDRAVIK_ACCEPTED && write.bytes == sizeof due && memcmp(binary, due, sizeof due) == 0 &&
+           read.number == CHUDRAVIK_ACCEPTED && memcmp(same, table, sizeof table) == 0 && cut.number == CHUDRAVIK_DIFFERENCE;
+}
+
 static int ticks(chudravik_counts counts)
 {
     state[0] = CHUDRAVIK_LOW << 6 | CHUDRAVIK_HIGH << 4;
@@ -117,7 +132,7 @@ static int merges(void)
 int main(void)
 {
     chudravik_counts counts;
-    if (!version_agrees() || !reads(&counts) || !reads_any(counts) || !writes_back(counts) || !ticks(counts) ||
+    if (!version_agrees() || !reads(&counts) || !reads_any(counts) || !writes_back(counts) || !crosses(counts) || !ticks(counts) ||
         !chains(counts) || !judges(counts) || !covers(counts) || !explains(counts) ||
         !merges()) {
         fputs("header: not as it must be\n", stderr);

@@ -14,6 +14,7 @@ enum { RESULT_BYTES = 33 };
 
 typedef struct {
     const char *text;
+    const char *binary;
     chudravik_counts counts;
     uint16_t table[12];
     uint8_t state;
@@ -24,9 +25,15 @@ typedef struct {
 
 /* No counts; a switch behind a gate that is never lit; two latches that swap. */
 static const sample samples[] = {
-    {.text = "aag 0 0 0 0 0\n", .n = 1},
-    {.text = "aag 2 1 0 1 1\n2\n4\n4 2 3\n", .counts = {1, 0, 1, 1}, .table = {4, 2, 3}, .switches = 0x80, .n = 1},
+    {.text = "aag 0 0 0 0 0\n", .binary = "aig 0 0 0 0 0\n", .n = 1},
+    {.text = "aag 2 1 0 1 1\n2\n4\n4 2 3\n",
+     .binary = "aig 2 1 0 1 1\n4\n\1\1",
+     .counts = {1, 0, 1, 1},
+     .table = {4, 2, 3},
+     .switches = 0x80,
+     .n = 1},
     {.text = "aag 3 0 2 1 1\n2 4\n4 2 1\n6\n6 4 2\n",
+     .binary = "aig 3 0 2 1 1\n4\n2 1\n6\n\2\2",
      .counts = {0, 2, 1, 1},
      .table = {4, 0, 2, 1, 6, 4, 2},
      .state = 0x60,
@@ -39,7 +46,9 @@ enum { SAMPLES = sizeof samples / sizeof samples[0] };
 static const enum role buffers_of[CALLS][6] = {
     [READ] = {TEXT, TABLE, ROLES},
     [READ_ANY] = {TEXT, TABLE, LIST, ROLES},
+    [READ_BINARY] = {TEXT, TABLE, ROLES},
     [WRITE] = {TABLE, TEXT, ROLES},
+    [WRITE_BINARY] = {TABLE, TEXT, ROLES},
     [TICK] = {TABLE, STATE, SWITCHES, NEXT, LAMPS, ROLES},
     [CHAIN] = {TABLE, CUBES, ROLES},
     [JUDGE] = {TABLE, CUBES, VERDICT, SETTLED, ROLES},
@@ -58,16 +67,21 @@ static size_t count_buffers(enum call call)
 
 static bool is_given(enum call call, enum role role)
 {
-    bool reads = call == READ || call == READ_ANY;
+    bool reads = call == READ || call == READ_ANY || call == READ_BINARY;
     return role == STATE || role == SWITCHES || role == ONE || role == OTHER || (role == TEXT && reads) || (role == TABLE && !reads) ||
            (role == CUBES && call != CHAIN);
 }
 
-static const void *given_content(const sample *s, enum role role)
+static const char *text_of(const sample *s, enum call call)
+{
+    return call == READ_BINARY ? s->binary : s->text;
+}
+
+static const void *given_content(const sample *s, enum call call, enum role role)
 {
     switch (role) {
     case TEXT:
-        return s->text;
+        return text_of(s, call);
     case TABLE:
         return s->table;
     case STATE:
@@ -80,11 +94,11 @@ static const void *given_content(const sample *s, enum role role)
     }
 }
 
-static size_t given_bytes(const sample *s, enum role role)
+static size_t given_bytes(const sample *s, enum call call, enum role role)
 {
     switch (role) {
     case TEXT:
-        return strlen(s->text);
+        return strlen(text_of(s, call));
     case TABLE:
         return 2 * CHUDRAVIK_TABLE_WORDS(s->counts.latches, s->counts.lamps, s->counts.gates);
     case CUBES:
@@ -97,9 +111,9 @@ static size_t given_bytes(const sample *s, enum role role)
 static void lend_whole(twice *t, const sample *s, enum role role)
 {
     bool given = is_given(t->call, role);
-    size_t bytes = given ? given_bytes(s, role) : role == TABLE || role == LIST ? sizeof s->table : RESULT_BYTES;
+    size_t bytes = given ? given_bytes(s, t->call, role) : role == TABLE || role == LIST ? sizeof s->table : RESULT_BYTES;
     if (given)
-        memcpy(twice_content(t, role), given_content(s, role), bytes);
+        memcpy(twice_content(t, role), given_content(s, t->call, role), bytes);
     else
         memset(twice_content(t, role), 0xA5, bytes);
     twice_lend(t, role, given, bytes, LAID_BEHIND);

@@ -935,3 +935,213 @@ chudravik_write_answer plain_write(chudravik_counts counts, const uint16_t *tabl
     put_body(put_header(text, &counts), &counts, table);
     return (chudravik_write_answer){CHUDRAVIK_ACCEPTED, length};
 }
+
+/* ---- the binary form: read ---- */
+
+static uint32_t read_binary_header(const uint8_t **at, const uint8_t *end, chudravik_counts *counts)
+{
+    size_t numbers[5];
+    if (end - *at < 4 || memcmp(*at, "aig ", 4) != 0) {
+        return CHUDRAVIK_FIRST_LINE;
+    }
+    *at += 4;
+    if (read_line(at, end, NEWLINE, 5, numbers) != 5) {
+        return CHUDRAVIK_FIRST_LINE;
+    }
+    *counts = (chudravik_counts){numbers[1], numbers[2], numbers[3], numbers[4]};
+    if (!counts_kept(counts) || numbers[0] != variables_of(counts)) {
+        return CHUDRAVIK_COUNTS;
+    }
+    return CHUDRAVIK_ACCEPTED;
+}
+
+static uint32_t judge_binary_latch(const uint8_t **at, const uint8_t *end, size_t own, size_t most)
+{
+    size_t numbers[2];
+    size_t count = read_line(at, end, NEWLINE, 2, numbers);
+    if (count == 0) {
+        return CHUDRAVIK_BODY_LINE;
+    }
+    if (numbers[0] > most) {
+        return CHUDRAVIK_LITERAL_TOO_LARGE;
+    }
+    return count == 2 && numbers[1] > 1 && numbers[1] != own ? CHUDRAVIK_RESET : CHUDRAVIK_ACCEPTED;
+}
+
+/* "each gate as two differences in groups of seven bits, low group first, the top bit set on all but the last"; *at goes
+ * behind it. False for "a difference cut off, longer than two bytes, or with a needless zero group". */
+static bool read_difference(const uint8_t **at, const uint8_t *end, size_t *difference)
+{
+    const uint8_t *p = *at;
+    if (p == end) {
+        return false;
+    }
+    if (p[0] < 128) {
+        *difference = p[0];
+        *at = p + 1;
+        return true;
+    }
+    if (end - p < 2 || p[1] == 0 || p[1] >= 128) {
+        return false;
+    }
+    *difference = (size_t)(p[0] - 128) + 128 * (size_t)p[1];
+    *at = p + 2;
+    return true;
+}
+
+/* "26 first within a gate" */
+static uint32_t judge_binary_gate(const uint8_t **at, const uint8_t *end, size_t own)
+{
+    size_t first, second;
+    if (!read_difference(at, end, &first) || !read_difference(at, end, &second)) {
+        return CHUDRAVIK_DIFFERENCE;
+    }
+    return first == 0 || first > own || second > own - first ? CHUDRAVIK_OPERAND_NOT_BELOW : CHUDRAVIK_ACCEPTED;
+}
+
+static uint32_t judge_binary_body(const uint8_t *at, const uint8_t *end, const chudravik_counts *counts)
+{
+    size_t most = 2 * variables_of(counts) + 1;
+    size_t own = 2 * (1 + counts->inputs);
+    uint32_t number = CHUDRAVIK_ACCEPTED;
+    for (size_t i = 0; i < counts->latches && number == CHUDRAVIK_ACCEPTED; i++, own += 2) {
+        number = judge_binary_latch(&at, end, own, most);
+    }
+    for (size_t i = 0; i < counts->lamps && number == CHUDRAVIK_ACCEPTED; i++) {
+        number = judge_lamp(&at, end, NEWLINE, most);
+    }
+    for (size_t i = 0; i < counts->gates && number == CHUDRAVIK_ACCEPTED; i++, own += 2) {
+        number = judge_binary_gate(&at, end, own);
+    }
+    if (number != CHUDRAVIK_ACCEPTED) {
+        return number;
+    }
+    return ended(at, end, NEWLINE) ? CHUDRAVIK_ACCEPTED : CHUDRAVIK_TRAILING;
+}
+
+/* The words of a body that nothing refuses. */
+static void fill_binary(const uint8_t *at, const uint8_t *end, const chudravik_counts *counts, uint16_t *restrict table)
+{
+    size_t numbers[2], first = 0, second = 0;
+    for (size_t i = 0; i < counts->latches; i++) {
+        size_t count = read_line(&at, end, NEWLINE, 2, numbers);
+        *table++ = (uint16_t)numbers[0];
+        *table++ = count < 2 ? 0 : numbers[1] > 1 ? CHUDRAVIK_NO_START : (uint16_t)numbers[1];
+    }
+    for (size_t i = 0; i < counts->lamps; i++) {
+        read_line(&at, end, NEWLINE, 1, numbers);
+        *table++ = (uint16_t)numbers[0];
+    }
+    size_t own = 2 * (1 + counts->inputs + counts->latches);
+    for (size_t i = 0; i < counts->gates; i++, own += 2) {
+        read_difference(&at, end, &first);
+        read_difference(&at, end, &second);
+        *table++ = (uint16_t)(own - first);
+        *table++ = (uint16_t)(own - first - second);
+    }
+}
+
+chudravik_read_answer plain_read_binary(const uint8_t *binary, size_t binary_bytes, uint16_t *table, size_t table_words)
+{
+    if (binary_bytes > CHUDRAVIK_MOST_TEXT) {
+        return read_refused(CHUDRAVIK_TEXT_TOO_LONG);
+    }
+    const uint8_t *body = binary;
+    const uint8_t *end = binary + binary_bytes;
+    chudravik_counts counts;
+    uint32_t number = read_binary_header(&body, end, &counts);
+    if (number == CHUDRAVIK_ACCEPTED) {
+        number = judge_binary_body(body, end, &counts);
+    }
+    if (number != CHUDRAVIK_ACCEPTED) {
+        return read_refused(number);
+    }
+    if (table_words < table_length(&counts)) {
+        return read_refused(CHUDRAVIK_TOO_SHORT);
+    }
+    fill_binary(body, end, &counts, table);
+    return (chudravik_read_answer){CHUDRAVIK_ACCEPTED, counts};
+}
+
+/* ---- the binary form: written ---- */
+
+/* "Operands are put larger first before writing." */
+static size_t larger_of(const uint16_t *operands)
+{
+    return operands[0] > operands[1] ? operands[0] : operands[1];
+}
+
+static size_t smaller_of(const uint16_t *operands)
+{
+    return operands[0] > operands[1] ? operands[1] : operands[0];
+}
+
+static size_t groups(size_t difference)
+{
+    return difference < 128 ? 1 : 2;
+}
+
+static uint8_t *put_difference(uint8_t *at, size_t difference)
+{
+    if (difference < 128) {
+        at[0] = (uint8_t)difference;
+        return at + 1;
+    }
+    at[0] = (uint8_t)(128 + difference % 128);
+    at[1] = (uint8_t)(difference / 128);
+    return at + 2;
+}
+
+static size_t binary_length(const chudravik_counts *counts, const uint16_t *table)
+{
+    size_t length = 4 + digits(variables_of(counts)) + digits(counts->inputs) + digits(counts->latches) +
+                    digits(counts->lamps) + digits(counts->gates) + 5;
+    size_t own = 2 * (1 + counts->inputs);
+    for (size_t i = 0; i < counts->latches; i++, own += 2, table += 2) {
+        length += digits(table[0]) + 1 + (table[1] == 0 ? 0 : table[1] == 1 ? 2 : digits(own) + 1);
+    }
+    for (size_t i = 0; i < counts->lamps; i++, table++) {
+        length += digits(table[0]) + 1;
+    }
+    for (size_t i = 0; i < counts->gates; i++, own += 2, table += 2) {
+        length += groups(own - larger_of(table)) + groups(larger_of(table) - smaller_of(table));
+    }
+    return length;
+}
+
+static void put_binary_body(uint8_t *restrict at, const chudravik_counts *counts, const uint16_t *restrict table)
+{
+    size_t own = 2 * (1 + counts->inputs);
+    for (size_t i = 0; i < counts->latches; i++, own += 2, table += 2) {
+        if (table[1] == 0) {
+            at = put_number(at, table[0], '\n');
+        } else {
+            at = put_number(at, table[0], ' ');
+            at = put_number(at, table[1] == 1 ? 1 : own, '\n');
+        }
+    }
+    for (size_t i = 0; i < counts->lamps; i++, table++) {
+        at = put_number(at, table[0], '\n');
+    }
+    for (size_t i = 0; i < counts->gates; i++, own += 2, table += 2) {
+        at = put_difference(at, own - larger_of(table));
+        at = put_difference(at, larger_of(table) - smaller_of(table));
+    }
+}
+
+chudravik_write_answer plain_write_binary(chudravik_counts counts, const uint16_t *table, size_t table_words,
+                                          uint8_t *binary, size_t binary_bytes)
+{
+    uint32_t number = circuit_refusal(&counts, table, table_words);
+    if (number != CHUDRAVIK_ACCEPTED) {
+        return (chudravik_write_answer){number, 0};
+    }
+    size_t length = binary_length(&counts, table);
+    if (binary_bytes < length) {
+        return (chudravik_write_answer){CHUDRAVIK_TOO_SHORT, 0};
+    }
+    uint8_t *body = put_header(binary, &counts);
+    binary[1] = 'i';
+    put_binary_body(body, &counts, table);
+    return (chudravik_write_answer){CHUDRAVIK_ACCEPTED, length};
+}

@@ -31,6 +31,11 @@ chudravik_cover_answer plain_cover(chudravik_counts counts, const uint16_t *tabl
                                    const uint8_t *cubes, size_t cubes_bytes, size_t n, uint8_t *verdict,
                                    size_t verdict_bytes);
 
+chudravik_read_answer plain_read_binary(const uint8_t *binary, size_t binary_bytes, uint16_t *table, size_t table_words);
+
+chudravik_write_answer plain_write_binary(chudravik_counts counts, const uint16_t *table, size_t table_words,
+                                          uint8_t *binary, size_t binary_bytes);
+
 chudravik_read_any_answer plain_read_any(const uint8_t *text, size_t text_bytes, uint16_t *table, size_t table_words,
                                          uint16_t *renumbered, size_t renumbered_words);
 

@@ -28,6 +28,8 @@ static chudravik_counts counts;
 static uint16_t table[CHUDRAVIK_MOST_TABLE_WORDS];
 static uint8_t text[CHUDRAVIK_MOST_TEXT];
 static size_t text_bytes;
+static uint8_t binary[CHUDRAVIK_MOST_BINARY + 1];
+static size_t binary_bytes;
 static uint8_t cubes[CHUDRAVIK_MOST_CUBE_BYTES];
 static uint8_t latches[CHUDRAVIK_RECORD_BYTES(CHUDRAVIK_MOST_LATCHES)];
 static uint8_t switches[CHUDRAVIK_RECORD_BYTES(CHUDRAVIK_MOST_INPUTS)];
@@ -51,6 +53,19 @@ static void call_write(void)
 static void call_read(void)
 {
     number = chudravik_read(text, text_bytes, table, CHUDRAVIK_MOST_TABLE_WORDS).number;
+}
+
+static void call_write_binary(void)
+{
+    chudravik_write_answer answer =
+        chudravik_write_binary(counts, table, CHUDRAVIK_MOST_TABLE_WORDS, binary, sizeof binary);
+    number = answer.number;
+    binary_bytes = answer.bytes;
+}
+
+static void call_read_binary(void)
+{
+    number = chudravik_read_binary(binary, binary_bytes, table, CHUDRAVIK_MOST_TABLE_WORDS).number;
 }
 
 static void call_read_any(void)
@@ -153,6 +168,8 @@ typedef struct {
 
 static const named_call WRITE = {"write", call_write, CHUDRAVIK_MOST_STACK},
                         READ = {"read", call_read, CHUDRAVIK_MOST_STACK},
+                        WRITE_BINARY = {"write_binary", call_write_binary, CHUDRAVIK_MOST_STACK},
+                        READ_BINARY = {"read_binary", call_read_binary, CHUDRAVIK_MOST_STACK},
                         READ_ANY = {"read_any", call_read_any, CHUDRAVIK_MOST_ANY_STACK},
                         TICK = {"tick", call_tick, CHUDRAVIK_MOST_STACK},
                         CHAIN = {"chain", call_chain, CHUDRAVIK_MOST_STACK},
@@ -166,15 +183,16 @@ static size_t nothing;
 static int measured(named_call c, const char *what, uint32_t due)
 {
     size_t used = stack_of(c.call) - nothing;
-    printf("%-8s %s: number %u, %zu bytes of stack\n", c.name, what, (unsigned)number, used);
+    printf("%-12s %s: number %u, %zu bytes of stack\n", c.name, what, (unsigned)number, used);
     return number == due && used <= c.most;
 }
 
-/* The write comes first: the text that it leaves is read. */
+/* A write comes first: the text that it leaves is read. */
 static int accepted(const char *what)
 {
     return measured(WRITE, what, CHUDRAVIK_ACCEPTED) & measured(READ, what, CHUDRAVIK_ACCEPTED) &
-           measured(READ_ANY, what, CHUDRAVIK_ACCEPTED) &
+           measured(READ_ANY, what, CHUDRAVIK_ACCEPTED) & measured(WRITE_BINARY, what, CHUDRAVIK_ACCEPTED) &
+           measured(READ_BINARY, what, CHUDRAVIK_ACCEPTED) &
            measured(TICK, what, CHUDRAVIK_ACCEPTED) & measured(CHAIN, what, CHUDRAVIK_ACCEPTED) &
            measured(JUDGE, what, CHUDRAVIK_ACCEPTED) & measured(COVER, what, CHUDRAVIK_ACCEPTED) &
            measured(WHY, what, counts.latches == 0 ? CHUDRAVIK_ACCEPTED : CHUDRAVIK_LAMP_UNKNOWN) &
@@ -185,14 +203,17 @@ static int refused(const char *what)
 {
     int passed;
     text[text_bytes++] = '0';
-    passed = measured(READ, what, CHUDRAVIK_TRAILING) & measured(READ_ANY, what, CHUDRAVIK_TRAILING);
+    binary[binary_bytes++] = '0';
+    passed = measured(READ, what, CHUDRAVIK_TRAILING) & measured(READ_ANY, what, CHUDRAVIK_TRAILING) &
+             measured(READ_BINARY, what, CHUDRAVIK_TRAILING);
     latches[sizeof latches - 1] = 3;
     passed &= measured(TICK, what, CHUDRAVIK_RECORD) & measured(MERGE, what, CHUDRAVIK_RECORD);
     latches[sizeof latches - 1] = 0;
     back = stored;
     passed &= measured(JUDGE, what, CHUDRAVIK_NOT_A_CHAIN);
     table[CHUDRAVIK_MOST_TABLE_WORDS - 1] = UINT16_MAX;
-    passed &= measured(WRITE, what, CHUDRAVIK_TABLE) & measured(CHAIN, what, CHUDRAVIK_TABLE) &
+    passed &= measured(WRITE, what, CHUDRAVIK_TABLE) & measured(WRITE_BINARY, what, CHUDRAVIK_TABLE) &
+              measured(CHAIN, what, CHUDRAVIK_TABLE) &
               measured(COVER, what, CHUDRAVIK_TABLE);
     table[CHUDRAVIK_MOST_TABLE_WORDS - 1] = 0;
     return passed;

@@ -6,7 +6,8 @@
 #include <stdlib.h>
 #include <string.h>
 
-const char *const call_names[CALLS] = {"read", "read_any", "write", "tick", "chain", "judge", "cover", "why", "merge"};
+const char *const call_names[CALLS] = {"read",  "read_any", "read_binary", "write", "write_binary", "tick",
+                                       "chain", "judge",    "cover",       "why",   "merge"};
 const char *const role_names[ROLES] = {"text",  "table", "list",    "state",  "switches",
                                        "next",  "lamps", "cubes",   "verdict", "settled",
                                        "why",   "a",     "b",       "merged"};
@@ -147,6 +148,34 @@ static answer simulator_writes(const twice *t)
     return (answer){.number = write.number, .bytes = write.bytes};
 }
 
+static answer library_reads_binary(const twice *t)
+{
+    chudravik_read_answer read =
+        chudravik_read_binary(of_library(t, TEXT), bytes_of(t, TEXT), library_table(t), table_words(t));
+    return (answer){.number = read.number, .counts = read.counts};
+}
+
+static answer simulator_reads_binary(const twice *t)
+{
+    chudravik_read_answer read =
+        simulate_read_binary(of_simulator(t, TEXT), bytes_of(t, TEXT), simulator_table(t), table_words(t));
+    return (answer){.number = read.number, .counts = read.counts};
+}
+
+static answer library_writes_binary(const twice *t)
+{
+    chudravik_write_answer write =
+        chudravik_write_binary(t->counts, library_table(t), table_words(t), of_library(t, TEXT), bytes_of(t, TEXT));
+    return (answer){.number = write.number, .bytes = write.bytes};
+}
+
+static answer simulator_writes_binary(const twice *t)
+{
+    chudravik_write_answer write =
+        simulate_write_binary(t->counts, simulator_table(t), table_words(t), of_simulator(t, TEXT), bytes_of(t, TEXT));
+    return (answer){.number = write.number, .bytes = write.bytes};
+}
+
 static answer library_ticks(const twice *t)
 {
     uint32_t number = chudravik_tick(t->counts, library_table(t), table_words(t), of_library(t, STATE),
@@ -243,14 +272,16 @@ static answer simulator_merges(const twice *t)
 typedef answer call_of(const twice *t);
 
 static call_of *const by_library[CALLS] = {
-    [READ] = library_reads,   [READ_ANY] = library_reads_any, [WRITE] = library_writes, [TICK] = library_ticks,
-    [CHAIN] = library_chains, [JUDGE] = library_judges,       [COVER] = library_covers, [WHY] = library_explains,
-    [MERGE] = library_merges,
+    [READ] = library_reads,   [READ_ANY] = library_reads_any,         [READ_BINARY] = library_reads_binary,
+    [WRITE] = library_writes, [WRITE_BINARY] = library_writes_binary, [TICK] = library_ticks,
+    [CHAIN] = library_chains, [JUDGE] = library_judges,               [COVER] = library_covers,
+    [WHY] = library_explains, [MERGE] = library_merges,
 };
 static call_of *const by_simulator[CALLS] = {
-    [READ] = simulator_reads,   [READ_ANY] = simulator_reads_any, [WRITE] = simulator_writes,
-    [TICK] = simulator_ticks,   [CHAIN] = simulator_chains,       [JUDGE] = simulator_judges,
-    [COVER] = simulator_covers, [WHY] = simulator_explains,       [MERGE] = simulator_merges,
+    [READ] = simulator_reads,   [READ_ANY] = simulator_reads_any,         [READ_BINARY] = simulator_reads_binary,
+    [WRITE] = simulator_writes, [WRITE_BINARY] = simulator_writes_binary, [TICK] = simulator_ticks,
+    [CHAIN] = simulator_chains, [JUDGE] = simulator_judges,               [COVER] = simulator_covers,
+    [WHY] = simulator_explains, [MERGE] = simulator_merges,
 };
 
 /* ---- what is compared ---- */

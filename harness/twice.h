@@ -5,11 +5,12 @@
 #ifndef TWICE_H
 #define TWICE_H
 
+#include "binary.h"
 #include "drawing.h"
 #include "guarded.h"
 #include "simulator.h"
 
-enum call { READ, READ_ANY, WRITE, TICK, CHAIN, JUDGE, COVER, WHY, MERGE, CALLS };
+enum call { READ, READ_ANY, READ_BINARY, WRITE, WRITE_BINARY, TICK, CHAIN, JUDGE, COVER, WHY, MERGE, CALLS };
 
 enum role { TEXT, TABLE, LIST, STATE, SWITCHES, NEXT, LAMPS, CUBES, VERDICT, SETTLED, REASON, ONE, OTHER, MERGED, ROLES };
 

@@ -1,4 +1,4 @@
-/* Chudravik: reads a logic circuit (AIGER ASCII), follows it in 0, 1 and X, and says which lamps can never light.
+/* Chudravik: reads a logic circuit (AIGER, ASCII or binary), follows it in 0, 1 and X, and says which lamps can never light.
  *
  * No call has a state behind it: it reads what it is given, fills what it is lent, and answers a number.
  * 0 is accepted; any other number is a refusal (below). Every call ends, for any numbers and any bytes.
@@ -47,6 +47,7 @@ extern "C" {
 #define CHUDRAVIK_MOST_VARIABLES 4095    /* inputs + latches + gates; and M of a text in any order */
 #define CHUDRAVIK_MOST_TEXT 60000        /* bytes of a text that is read */
 #define CHUDRAVIK_MOST_WRITTEN 58415     /* bytes of a text that is written: no circuit needs more */
+#define CHUDRAVIK_MOST_BINARY 18530      /* bytes of a binary text that is written: no circuit needs more */
 #define CHUDRAVIK_MOST_INTERVAL 1000     /* w */
 #define CHUDRAVIK_MOST_CUBE_BYTES 65536  /* the cube buffer */
 #define CHUDRAVIK_MOST_FIELDS 512        /* of the records of chudravik_merge */
@@ -92,12 +93,12 @@ extern "C" {
 
 #define CHUDRAVIK_ACCEPTED 0
 #define CHUDRAVIK_TEXT_TOO_LONG 1       /* text over 60,000 bytes */
-#define CHUDRAVIK_FIRST_LINE 2          /* first line not `aag M I L O A` */
+#define CHUDRAVIK_FIRST_LINE 2          /* first line not `aag M I L O A`, or `aig M I L O A` in the binary form */
 #define CHUDRAVIK_COUNTS 3              /* a count over its ceiling, or M not I + L + A; fields of a merge over 512 */
 #define CHUDRAVIK_BODY_LINE 4           /* a body line missing or ill-formed */
 #define CHUDRAVIK_OWN_LITERAL 5         /* own literal not the one due in that place */
 #define CHUDRAVIK_LITERAL_TOO_LARGE 6   /* another literal above 2M + 1 */
-#define CHUDRAVIK_OPERAND_NOT_BELOW 7   /* gate operand not below the gate's own literal */
+#define CHUDRAVIK_OPERAND_NOT_BELOW 7   /* gate operand not below the gate's own literal; a difference that cannot be */
 #define CHUDRAVIK_RESET 8               /* reset other than 0, 1 or the latch's own literal */
 #define CHUDRAVIK_TRAILING 9            /* anything else after the last line */
 #define CHUDRAVIK_TOO_SHORT 10          /* a lent table, record or result too short */
@@ -115,6 +116,7 @@ extern "C" {
 #define CHUDRAVIK_LOOP 22               /* gates in a loop */
 #define CHUDRAVIK_NO_SUCH_LAMP 23       /* a lamp's number that is not below the count of lamps */
 #define CHUDRAVIK_LAMP_UNKNOWN 24       /* the lamp's value is X there, so no latch forces it */
+#define CHUDRAVIK_DIFFERENCE 26         /* a difference cut off, longer than two bytes, or with a needless zero group */
 
 /* Where several apply, the first in the order named at the call is given. A refusal answers zeros beside its number and
  * changes no buffer, save 15 (chudravik_chain); 18 names a cube (chudravik_cover). */
@@ -251,11 +253,30 @@ chudravik_read_answer chudravik_read(const uint8_t *text, size_t text_bytes, uin
 chudravik_read_any_answer chudravik_read_any(const uint8_t *text, size_t text_bytes, uint16_t *table, size_t table_words,
                                              uint16_t *renumbered, size_t renumbered_words);
 
+/* Reads a circuit from AIGER's binary form into the front of the table: the first line opens with `aig`; there are no input
+ * lines; a latch line is its next literal and perhaps its reset, 0, 1 or the own literal that it does not show; then the lamp
+ * lines; then each gate as two differences, own literal less first operand and first operand less second, in groups of seven
+ * bits, low group first, the top bit set on all but the last. Byte 10 is the only ending. Behind the last gate the end, or a
+ * line `c`. So the first operand of each gate is at least the second.
+ * Refusals: 1, 2, 3, then line by line (4, 6, 8), then gate by gate 26 for either difference, and 7 where the first is 0 or
+ * above the own literal, or the second above the first operand; then 9, and 10 where the table is shorter than
+ * CHUDRAVIK_TABLE_WORDS of the circuit. 5 is never given. Words beyond stay as they were. */
+chudravik_read_answer chudravik_read_binary(const uint8_t *binary, size_t binary_bytes, uint16_t *table,
+                                            size_t table_words);
+
 /* Writes the text of a circuit to the front of a buffer. Reading it gives the same counts and words back.
  * Refusals: 3, 10 for the table, 11, 10 where the buffer is shorter than the text. CHUDRAVIK_MOST_WRITTEN bytes are
  * always enough. Bytes beyond the text stay as they were. */
 chudravik_write_answer chudravik_write(chudravik_counts counts, const uint16_t *table, size_t table_words, uint8_t *text,
                                        size_t text_bytes);
+
+/* Writes a circuit in AIGER's binary form to the front of a buffer, the operands of each gate larger first. Reading it gives
+ * the same counts and words back, but for operands so ordered; the circuit behaves the same. Two tables whose operands are so
+ * ordered give equal bytes only where they are equal.
+ * Refusals: 3, 10 for the table, 11, 10 where the buffer is shorter than the binary text. CHUDRAVIK_MOST_BINARY bytes are
+ * always enough. Bytes beyond the binary text stay as they were. */
+chudravik_write_answer chudravik_write_binary(chudravik_counts counts, const uint16_t *table, size_t table_words,
+                                              uint8_t *binary, size_t binary_bytes);
 
 /* One tick: the next state, and the lamps before the tick, of a state under a switch setting, either with X in it.
  * state has a field for each latch, switches for each input; next is a record for the latches, lamps for the lamps.

@@ -12,7 +12,7 @@ ghost use Rattle.three.specs.Lists.{every};
 ghost use Rattle.circuit.specs.Refusal.{refusal};
 ghost use Rattle.circuit.specs.RulesInCode.{Bounded};
 ghost use Rattle.circuit.specs.Table.{tableLength};
-ghost use Rattle.text.specs.Text.{header as firstLine, endingOf};
+ghost use Rattle.text.specs.Text.{magic, header as firstLine, circuitLines, endingOf};
 ghost use Rattle.lines.specs.LinesInCode.{endingBytes, LineFound};
 ghost use Rattle.reader.specs.ReaderInCode.{BodyAt};
 ghost use Rattle.beginners.specs.Rules.{smallTests, varies, wellFed, feedTests};
@@ -138,7 +138,7 @@ fn read_body(
     counts: Counts,
     table: &mut [u16],
 ) -> ReadAnswer
-    requires { ⌜ BodyAt (endingBytes ending) (now text) counts at × (endingOf (now text) ≡ endingBytes ending) × (tableLength counts ≤ length (now table)) ⌝ }
+    requires { ⌜ BodyAt magic (endingBytes ending) (circuitLines (endingBytes ending)) (now text) counts at × (endingOf (now text) ≡ endingBytes ending) × (tableLength counts ≤ length (now table)) ⌝ }
     ensures { λ r. ⌜ ReadingBeginners (now (text .entry)) (now (table .entry)) (r .number) (r .counts) (now (table .exit)) ⌝ }
 {
     let large = small_refusal(counts);

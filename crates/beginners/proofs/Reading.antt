@@ -11,31 +11,26 @@ use Rattle.text.specs.OutcomeInCode.{after}
 use Rattle.text.specs.Text.{Content}
 use Rattle.text.specs.Calls.{readInto, zeros}
 use Rattle.text.proofs.Outcomes.{tested-stops, tested-past}
+use Rattle.text.proofs.Answers.{reading-refused, reading-accepted}
 use Rattle.beginners.specs.Rules.{beginnersTests}
 use Rattle.beginners.specs.Calls.{readBeginners, ReadingBeginners}
 use Rattle.beginners.specs.Promise.{AlsoRead}
 
 module _ (text table : List ℕ) where
-  stopped : {n : ℕ} → readBeginners text table ≡ refused n → ReadingBeginners text table n zeros table
-  unfolding numberOf leaves
-  stopped e = record { answers = ap numberOf (sym e); returns = ap (leaves _ zeros) (sym e); fills = ap (leaves _ table) (sym e) }
-
   -- 1 to 10
   pub beginners-stops : {n : ℕ} → readInto text table ≡ refused n → ReadingBeginners text table n zeros table
   unfolding readBeginners further
-  beginners-stops e = stopped (ap (further _) e)
+  beginners-stops e = reading-refused table (ap (further _) e)
 
   module _ {c : Content} (e : readInto text table ≡ accepted c) where
     pub beginners-outside : (k : ℕ) → k ≡ refusal (beginnersTests (c .counts) (c .words)) → (k ≡ 0 → ⊥) → ReadingBeginners text table k zeros table
     unfolding readBeginners further
     beginners-outside zero h z = absurd (z refl)
-    beginners-outside (suc k) h z = stopped (ap (further _) e ∙ tested-stops _ (accepted c) h)
+    beginners-outside (suc k) h z = reading-refused table (ap (further _) e ∙ tested-stops _ (accepted c) h)
 
     pub beginners-accepted : 0 ≡ refusal (beginnersTests (c .counts) (c .words)) → ReadingBeginners text table 0 (c .counts) (over (c .words) table)
-    unfolding readBeginners further numberOf leaves
-    beginners-accepted h =
-        let all : readBeginners text table ≡ accepted c = ap (further _) e ∙ tested-past _ (accepted c) h in
-        record { answers = ap numberOf (sym all); returns = ap (leaves _ zeros) (sym all); fills = ap (leaves _ table) (sym all) }
+    unfolding readBeginners further
+    beginners-accepted h = reading-accepted table (ap (further _) e ∙ tested-past _ (accepted c) h)
 
 -- ---- accepted here, accepted by the call read
 

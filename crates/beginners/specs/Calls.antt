@@ -8,9 +8,9 @@ use Rattle.three.specs.Lists.{over}
 use Rattle.circuit.specs.declared.Counts.{Counts}
 use Rattle.circuit.specs.Refusal.{Test, _or_, refusal, leftBy}
 use Rattle.circuit.specs.Table.{boardTests}
-use Rattle.text.specs.Outcome.{Outcome, numberOf, further, leaves}
+use Rattle.text.specs.Outcome.{Outcome, further}
 use Rattle.text.specs.Text.{Content}
-use Rattle.text.specs.Calls.{readInto, zeros}
+use Rattle.text.specs.Calls.{readInto, ReadBy}
 use Rattle.cubes.specs.declared.ChainAnswer.{ChainAnswer}
 use Rattle.cubes.specs.Run.{cubeAt}
 use Rattle.cubes.specs.Buffer.{packCubes}
@@ -23,11 +23,9 @@ use Rattle.beginners.specs.Rules.{beginnersTests}
 unfoldable pub readBeginners : List ℕ → List ℕ → Outcome Content
 readBeginners text table = further (λ c. beginnersTests (c .counts) (c .words)) (readInto text table)
 
--- The contract of the reader: its number, I, L, O and A, and the table at exit. A refusal changes no word; words beyond stay.
-pub record ReadingBeginners (text table : List ℕ) (number : ℕ) (counts : Counts) (table′ : List ℕ) : Type 0 where
-  pub answers : number ≡ numberOf (readBeginners text table)
-  pub returns : counts ≡ leaves (λ c. c .counts) zeros (readBeginners text table)
-  pub fills : table′ ≡ leaves (λ c. over (c .words) table) table (readBeginners text table)
+-- The contract of the reader
+abbrev pub ReadingBeginners : (text table : List ℕ) (number : ℕ) (counts : Counts) (table′ : List ℕ) → Type 0
+ReadingBeginners text table number counts table′ = ReadBy (readBeginners text table) table number counts table′
 
 -- ---- the run
 

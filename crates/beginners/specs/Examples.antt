@@ -10,15 +10,15 @@ use Rattle.circuit.specs.Table.{ceilingTests, lampTests, several, kinds, width,
 use Rattle.text.specs.Decimal.{isDigit, mayGrow, readOn, readNumber}
 use Rattle.text.specs.Line.{strip, prepend, splitLine}
 use Rattle.text.specs.Outcome.{numberOf, tested, further, onward, leaves}
-use Rattle.text.specs.Text.{fits, owns, resetWord, words, lineTests, ends, readLines, header, countsOf, headerTests, readEnded, endingOf, readText}
-use Rattle.text.specs.Calls.{readInto}
+use Rattle.text.specs.Text.{fits, owns, resetWord, words, lineTests, ends, readLines, firstLine, countsOf, headerTests, readOpened, endingOf, readText}
+use Rattle.text.specs.Calls.{intoTable}
 use Rattle.text.specs.Bench.{bytes}
 use Rattle.beginners.specs.Rules.{smallTests, varies, wellFed, feedTests, beginnersTests}
 use Rattle.beginners.specs.Calls.{readBeginners, bufferTests, chainBeginnersTests}
 
 -- the number, and the table at exit
 unfoldable pub reads : String → List ℕ → List ℕ
-unfolding every over refusal ceilingTests several kinds rowTests literalTests operandTests isDigit mayGrow readOn readNumber strip prepend splitLine numberOf tested further onward leaves fits owns resetWord words lineTests ends readLines header countsOf headerTests readEnded endingOf readText readInto bytes smallTests varies wellFed feedTests beginnersTests readBeginners
+unfolding every over refusal ceilingTests several kinds rowTests literalTests operandTests isDigit mayGrow readOn readNumber strip prepend splitLine numberOf tested further onward leaves fits owns resetWord words lineTests ends readLines firstLine countsOf headerTests readOpened endingOf readText intoTable bytes smallTests varies wellFed feedTests beginnersTests readBeginners
 reads text table = numberOf (readBeginners (bytes text) table) ∷ leaves (λ c. over (c .words) table) table (readBeginners (bytes text) table)
 
 unfoldable pub answers : Counts → List ℕ → ℕ → ℕ

@@ -45,6 +45,6 @@ K-dark e (suc t) = ap (λ (b : Bool). b ∷ []) (off-with-inverse (e .switches (
 pub truly-dark : (table : List ℕ) → 16 ≤ length table → {number : ℕ} {counts : Counts} {table′ : List ℕ} → Reading (bytes K·) table number counts table′
     → (e : Execution (circuitOf counts table′)) (t : ℕ) → lampsAfter e t ≡ false ∷ []
 truly-dark table room {number} {counts} {table′} reading =
-    let is = reading-determined reading (reading-accepted (bytes K·) table (read-fits (bytes K·) table K-read (omega arith))) in
+    let is = reading-determined reading (reading-accepted table (read-fits table K-read (omega arith))) in
     let same : circuitOf counts table′ ≡ K-circuit = ap₂ circuitOf (is .1) (is .2) ∙ circuit-read (bytes K·) K-read table (omega arith) in
     rw same K-dark

@@ -9,6 +9,7 @@ use writer::WriteAnswer;
 ghost use Rattle.tick.specs.Tick.{Ticked};
 ghost use Rattle.text.specs.Calls.{Reading, Writing};
 ghost use Rattle.drawn.specs.Lines.{ReadingAny};
+ghost use Rattle.binary.specs.Calls.{BinaryReading, BinaryWriting};
 ghost use Rattle.cubes.specs.Chain.{Chained};
 ghost use Rattle.cubes.specs.Judge.{Judged};
 ghost use Rattle.cubes.specs.Promise.{Closing, Promises};
@@ -39,10 +40,28 @@ pub extern "C" fn chudravik_read_any(
 }
 
 #[no_mangle]
+pub extern "C" fn chudravik_read_binary(bytes: &[u8], table: &mut [u16]) -> ReadAnswer
+    ensures { λ r. ⌜ BinaryReading (now (bytes .entry)) (now (table .entry)) (r .number) (r .counts) (now (table .exit)) ⌝ }
+{
+    binary_reader::read_binary(bytes, table)
+}
+
+#[no_mangle]
 pub extern "C" fn chudravik_write(counts: Counts, table: &[u16], text: &mut [u8]) -> WriteAnswer
     ensures { λ r. ⌜ Writing counts (now (table .entry)) (now (text .entry)) (r .number) (r .bytes) (now (text .exit)) ⌝ }
 {
     writer::write(counts, table, text)
+}
+
+#[no_mangle]
+pub extern "C" fn chudravik_write_binary(
+    counts: Counts,
+    table: &[u16],
+    bytes: &mut [u8],
+) -> WriteAnswer
+    ensures { λ r. ⌜ BinaryWriting counts (now (table .entry)) (now (bytes .entry)) (r .number) (r .bytes) (now (bytes .exit)) ⌝ }
+{
+    binary_writer::write_binary(counts, table, bytes)
 }
 
 #[no_mangle]

@@ -16,7 +16,7 @@ use Rattle.circuit.specs.declared.Counts.{Counts}
 use Rattle.circuit.specs.Table.{variables, top, ceilingTests, tableLength, Kind, input, latch, literal, gate, kinds, rowTests, literalTests, operandTests}
 use Rattle.circuit.proofs.Refusals.{passed-refusal}
 use Rattle.text.specs.Outcome.{accepted, onward}
-use Rattle.text.specs.Text.{fits, owns, words, shownOwn, lineTests, Lines, readLines, header, countsOf, headerTests, Content, endingOf, readText}
+use Rattle.text.specs.Text.{magic, fits, owns, words, shownOwn, lineTests, Lines, readLines, header, countsOf, headerTests, Content, endingOf, readText}
 use Rattle.text.proofs.Outcomes.{append-passed, accepted-same}
 use Rattle.text.proofs.Steps.{line-fits, line-accepted, line-numbered, header-accepted}
 use Rattle.text.proofs.Endings.{describes}
@@ -129,7 +129,7 @@ pub record PlainDrawing (t : List ℕ) (c : Content) : Type 0 where
 pub plain-accepted : (t : List ℕ) {c : Content} → readText t ≡ accepted c → PlainDrawing t c
 unfolding readText readAny headerTests afterTests
 plain-accepted t {c} a =
-    let h = header-accepted (endingOf t) t a in
+    let h = header-accepted magic (endingOf t) _ t a in
     let n : Counts = countsOf (h .numbers) in
     let e : getD (h .numbers) 0 0 ≡ variables n = eqb-true (getD (h .numbers) 0 0) (variables n) (h .passes .1 .0) in
     let b = plain-lines (endingOf t) (top n) (kinds n) (h .behind) (h .on) in

@@ -9,7 +9,7 @@ use lib.Dec.{ltb, eqb}
 use lib.ListN.{length, getD}
 use Rattle.three.proofs.Lists.{by-test}
 use Rattle.circuit.specs.Table.{Kind, input, latch, gate, several, literal}
-use Rattle.circuit.specs.Refusal.{Test, refusal}
+use Rattle.circuit.specs.Refusal.{refusal}
 use Rattle.text.specs.Part.{got}
 use Rattle.text.specs.Line.{strip, readLine}
 use Rattle.text.specs.Outcome.{Outcome, accepted, refused, onward}
@@ -19,7 +19,7 @@ use Rattle.text.proofs.Steps.{line-ill, line-stops, line-fits}
 use Rattle.lines.specs.declared.ReadLine.{ReadLine}
 use Rattle.reader.specs.declared.Judged.{Judged}
 use Rattle.lines.specs.LinesInCode.{from, EndingAt, numbersOf, LineFound}
-use Rattle.reader.specs.ReaderInCode.{left, LinesJudged}
+use Rattle.reader.specs.ReaderInCode.{Reads, left, LinesJudged}
 use Rattle.text.proofs.Outcomes.{accepted-same, refused-accepted}
 use Rattle.lines.proofs.Numbers.{from-end, from-byte}
 use Rattle.lines.proofs.Endings.{ending-none, ending-some}
@@ -30,10 +30,10 @@ use Rattle.lines.proofs.Finding.{line-got, line-ill-formed}
 
 -- ---- the text that lines leave
 
-pub left-front : (k : Kind) (ns : List ℕ) (o : Outcome Lines) → left (onward (inFront k ns) o) ≡ left o
+pub left-onward : (f : Lines → Lines) → ((l : Lines) → f l .rest ≡ l .rest) → (o : Outcome Lines) → left (onward f o) ≡ left o
 unfolding left onward
-left-front k ns (accepted l) = refl
-left-front k ns (refused n) = refl
+left-onward f same (accepted l) = ap accepted (same l)
+left-onward f same (refused n) = refl
 
 pub left-refused : {o : Outcome Lines} {n : ℕ} → o ≡ refused n → left o ≡ refused n
 unfolding left onward
@@ -63,7 +63,7 @@ unfolding fits
 no-numbers k = elim k [ input own ↦ refl | latch own ↦ refl | gate own ↦ refl | literal ↦ refl ]
 
 pub line-judged : (ending text : List ℕ) (at most : ℕ) (k : Kind) (l : ReadLine) (n : ℕ) → LineFound text (readLine ending (from text at)) l → n ≡ refusal (lineTests most k (numbersOf l))
-    → LinesJudged ending text at (lineTests most) (λ ks. k ∷ ks) (record { number = n; next = l .next })
+    → LinesJudged (readLines ending (lineTests most)) text at (λ ks. k ∷ ks) (record { number = n; next = l .next })
 line-judged ending text at most k l n f e = record {
   says = λ ks. by-test (ltb 0 (l .count))
       (λ h. on ks n e (line-got l f (ltb-true 0 (l .count) h)))
@@ -75,7 +75,7 @@ line-judged ending text at most k l n f e = record {
   where
     on : (ks : List Kind) (n : ℕ) → n ≡ refusal (lineTests most k (numbersOf l)) → readLine ending (from text at) ≡ got (numbersOf l) (from text (l .next))
         → left (readLines ending (lineTests most) (k ∷ ks) (from text at)) ≡ after n (left (readLines ending (lineTests most) ks (from text (l .next))))
-    on ks zero h g = ap left (line-fits ending (lineTests most) k ks _ g h) ∙ left-front k (numbersOf l) _
+    on ks zero h g = ap left (line-fits ending (lineTests most) k ks _ g h) ∙ left-onward (inFront k (numbersOf l)) (λ r. refl) _
     on ks (suc n) h g = left-refused (line-stops ending (lineTests most) k ks _ g h)
 
 -- ---- the first pass: the end of the text
@@ -100,38 +100,37 @@ module _ (ending text : List ℕ) (at : ℕ) where
 
 -- ---- the first pass: of n lines of one kind i are judged, and the next one stands at `next`
 
-module _ (ending text : List ℕ) (at : ℕ) (tests : Kind → List ℕ → List Test) (kind : ℕ → Kind) (own n : ℕ) where
+module _ (read : Reads) (text : List ℕ) (at : ℕ) (kind : ℕ → Kind) (own n : ℕ) where
   pub record Turns (next i : ℕ) : Type 0 where
     pub few : i ≤ n
     pub within : next ≤ length text
-    pub same : (ks : List Kind) → left (readLines ending tests (several kind own n ks) (from text at)) ≡ left (readLines ending tests (linesFrom kind own n ks i) (from text next))
+    pub same : (ks : List Kind) → left (read (several kind own n ks) (from text at)) ≡ left (read (linesFrom kind own n ks i) (from text next))
 
   pub turns-first : at ≤ length text → Turns at 0
-  turns-first h = record { few = omega arith; within = h; same = λ ks. ap (λ l. left (readLines ending tests l (from text at))) (lines-first kind own n ks) }
+  turns-first h = record { few = omega arith; within = h; same = λ ks. ap (λ l. left (read l (from text at))) (lines-first kind own n ks) }
 
   module _ {next i : ℕ} (s : Turns next i) where
-    module _ (h : i < n) {j : Judged} (f : LinesJudged ending text next tests (λ ks. kind (own + 2 * i) ∷ ks) j) where
-      line-says : (ks : List Kind) → left (readLines ending tests (several kind own n ks) (from text at)) ≡ after (j .number) (left (readLines ending tests (linesFrom kind own n ks (i + 1)) (from text (j .next))))
+    module _ (h : i < n) {j : Judged} (f : LinesJudged read text next (λ ks. kind (own + 2 * i) ∷ ks) j) where
+      line-says : (ks : List Kind) → left (read (several kind own n ks) (from text at)) ≡ after (j .number) (left (read (linesFrom kind own n ks (i + 1)) (from text (j .next))))
       line-says ks = s .same ks ∙ rw (lines-next kind own n ks i h) (f .says _)
 
-      pub turns-stop : (j .number ≡ 0 → ⊥) → LinesJudged ending text at tests (several kind own n) j
+      pub turns-stop : (j .number ≡ 0 → ⊥) → LinesJudged read text at (several kind own n) j
       turns-stop z = record { says = λ ks. line-says ks ∙ after-refused _ _ z ∙ sym (after-refused _ _ z); within = f .within }
 
       pub turns-next : j .number ≡ 0 → Turns (j .next) (i + 1)
       turns-next z = record { few = omega arith; within = f .within; same = λ ks. line-says ks ∙ after-none _ z }
 
-    pub turns-last : n ≤ i → LinesJudged ending text at tests (several kind own n) (record { number = 0; next = next })
+    pub turns-last : n ≤ i → LinesJudged read text at (several kind own n) (record { number = 0; next = next })
     turns-last h = record {
-      says = λ ks. s .same ks ∙ ap (λ l. left (readLines ending tests l (from text next))) (lines-last kind own n ks i h) ∙ sym (after-none _ refl);
+      says = λ ks. s .same ks ∙ ap (λ l. left (read l (from text next))) (lines-last kind own n ks i h) ∙ sym (after-none _ refl);
       within = s .within;
     }
 
 -- ---- the first pass: lines, and others behind them; the first refusal decides
 
-module _ {ending text : List ℕ} {at : ℕ} {tests : Kind → List ℕ → List Test} {lines : List Kind → List Kind} (others : List Kind → List Kind) {j : Judged}
-    (a : LinesJudged ending text at tests lines j) where
-  pub judged-stop : (j .number ≡ 0 → ⊥) → LinesJudged ending text at tests (λ ks. lines (others ks)) j
+module _ {read : Reads} {text : List ℕ} {at : ℕ} {lines : List Kind → List Kind} (others : List Kind → List Kind) {j : Judged} (a : LinesJudged read text at lines j) where
+  pub judged-stop : (j .number ≡ 0 → ⊥) → LinesJudged read text at (λ ks. lines (others ks)) j
   judged-stop z = record { says = λ ks. a .says _ ∙ after-refused _ _ z ∙ sym (after-refused _ _ z); within = a .within }
 
-  pub judged-then : j .number ≡ 0 → {i : Judged} → LinesJudged ending text (j .next) tests others i → LinesJudged ending text at tests (λ ks. lines (others ks)) i
+  pub judged-then : j .number ≡ 0 → {i : Judged} → LinesJudged read text (j .next) others i → LinesJudged read text at (λ ks. lines (others ks)) i
   judged-then z b = record { says = λ ks. a .says _ ∙ after-none _ z ∙ b .says ks; within = b .within }

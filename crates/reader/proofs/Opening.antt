@@ -6,14 +6,15 @@ use Prim.Native.Nat.{ℕ, _-_, _≤_, _<_}
 use borrow.Author.Tests.{ltb-true, ltb-false, eq-eqb, ne-eqb}
 use lib.Dec.{ltb, eqb}
 use lib.ListN.{length, getD}
+use Rattle.three.specs.Lists.{every}
 use Rattle.three.proofs.Lists.{by-test}
 use Rattle.text.specs.Part.{ill}
 use Rattle.text.specs.Line.{strip, splitLine}
-use Rattle.text.specs.Text.{magic, header, countsOf, headerTests}
+use Rattle.text.specs.Text.{firstLine, countsOf, headerTests}
 use Rattle.lines.specs.LinesInCode.{from, Shape, numbersOf, mostNumbers}
 use Rattle.reader.specs.ReaderInCode.{opened}
 use Rattle.text.proofs.Parts.{by-part}
-use Rattle.text.proofs.Lines.{opening, strip-short, strip-alike, strip-unlike}
+use Rattle.text.proofs.Lines.{opening as opens, strip-short, strip-alike, strip-unlike}
 use Rattle.circuit.specs.declared.Counts.{Counts}
 use Rattle.circuit.specs.Refusal.{Test, _or_, refusal}
 use Rattle.circuit.specs.Table.{variables, ceilingTests}
@@ -24,31 +25,31 @@ use Rattle.circuit.proofs.Legality.{ceilings-alike}
 
 -- ---- found at its positions
 
-module _ (text : List ℕ) where
-  pub opened-short : length text < 4 → false ≡ opened text
+module _ (opening text : List ℕ) (four : length opening ≡ 4) where
+  pub opened-short : length text < 4 → false ≡ opened opening text
   unfolding opened
-  opened-short h = sym (rw (opened, strip-short magic text h))
+  opened-short h = sym (rw (opened, strip-short opening text (rw four h)))
 
-  pub opened-alike : 4 ≤ length text → opening magic text ≡ opened text
+  pub opened-alike : 4 ≤ length text → every 4 (λ i. eqb (getD opening i 0) (getD text i 0)) ≡ opened opening text
   unfolding opened
-  opened-alike h = by-test (opening magic text)
-      (λ e. rw (e, opened, strip-alike magic text h e))
-      (λ e. rw (e, opened, strip-unlike magic text h e))
+  opened-alike h = rw (← four) (by-test (opens opening text)
+      (λ e. rw (e, opened, strip-alike opening text (rw four h) e))
+      (λ e. rw (e, opened, strip-unlike opening text (rw four h) e)))
 
-  pub opened-long : {b : Bool} → b ≡ opened text → b ≡ true → 4 ≤ length text
+  pub opened-long : {b : Bool} → b ≡ opened opening text → b ≡ true → 4 ≤ length text
   opened-long e t = by-test (ltb (length text) 4)
       (λ h. absurd (false≢true (opened-short (ltb-true (length text) 4 h) ∙ sym e ∙ t)))
       (ltb-false (length text) 4)
 
-  pub header-none : (ending : List ℕ) {b : Bool} → b ≡ opened text → b ≡ false → header ending text ≡ ill
-  unfolding opened header
-  header-none ending e f = by-part (strip magic text) (λ u r g. absurd (true≢false (sym (rw (opened, g) at e) ∙ f))) (λ g. rw (header, g))
+  pub header-none : (ending : List ℕ) {b : Bool} → b ≡ opened opening text → b ≡ false → firstLine opening ending text ≡ ill
+  unfolding opened firstLine
+  header-none ending e f = by-part (strip opening text) (λ u r g. absurd (true≢false (sym (rw (opened, g) at e) ∙ f))) (λ g. rw (firstLine, g))
 
-  pub header-line : (ending : List ℕ) {b : Bool} → b ≡ opened text → b ≡ true → header ending text ≡ splitLine ending mostNumbers (from text 4)
-  unfolding header from
+  pub header-line : (ending : List ℕ) {b : Bool} → b ≡ opened opening text → b ≡ true → firstLine opening ending text ≡ splitLine ending mostNumbers (from text 4)
+  unfolding firstLine from
   header-line ending e t =
       let h = opened-long e t in
-      rw (header, strip-alike magic text h (opened-alike h ∙ sym e ∙ t))
+      rw (firstLine, strip-alike opening text (rw four h) (rw (← four) at (opened-alike h ∙ sym e ∙ t)), four)
 
 -- ---- its refusals: the ceilings, and then M
 

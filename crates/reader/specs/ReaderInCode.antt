@@ -6,8 +6,7 @@ use Prim.Native.Nat.{ℕ, _+_, _*_, _≤_, _<_}
 use lib.ListN.{length, getD}
 use lib.Seq.{sets}
 use Rattle.circuit.specs.declared.Counts.{Counts}
-use Rattle.circuit.specs.Refusal.{Test}
-use Rattle.circuit.specs.Table.{top, Kind, input, latch, gate, several, kinds, literal, literals}
+use Rattle.circuit.specs.Table.{Kind, input, latch, gate, several, kinds, literal, literals}
 use Rattle.circuit.specs.RulesInCode.{Bounded}
 use Rattle.reader.specs.declared.Judged.{Judged}
 use Rattle.reader.specs.declared.Judgement.{Judgement}
@@ -17,12 +16,16 @@ use Rattle.text.specs.Part.{got, ill}
 use Rattle.text.specs.Line.{strip}
 use Rattle.text.specs.Outcome.{Outcome, accepted, refused, onward, leaves}
 use Rattle.text.specs.OutcomeInCode.{after}
-use Rattle.text.specs.Text.{magic, lineTests, Lines, readLines, readEnded}
+use Rattle.text.specs.Text.{Lines, readOpened}
 use Rattle.lines.specs.LinesInCode.{from}
 
--- the text opens with `aag` and a space
-unfoldable pub opened : List ℕ → Bool
-opened text = elim (strip magic text) [ got u r ↦ true | ill ↦ false ]
+-- the text opens with these bytes
+unfoldable pub opened : List ℕ → List ℕ → Bool
+opened opening text = elim (strip opening text) [ got u r ↦ true | ill ↦ false ]
+
+-- what reads lines of some kinds, one for each
+abbrev pub Reads : Type 0
+Reads = List Kind → List ℕ → Outcome Lines
 
 -- ---- the first pass
 
@@ -31,8 +34,8 @@ unfoldable pub left : Outcome Lines → Outcome (List ℕ)
 left o = onward (λ l. l .rest) o
 
 -- Lines judged that stand in front of any others: their refusal, or else the others decide
-pub record LinesJudged (ending text : List ℕ) (at : ℕ) (tests : Kind → List ℕ → List Test) (lines : List Kind → List Kind) (j : Judged) : Type 0 where
-  pub says : (ks : List Kind) → left (readLines ending tests (lines ks) (from text at)) ≡ after (j .number) (left (readLines ending tests ks (from text (j .next))))
+pub record LinesJudged (read : Reads) (text : List ℕ) (at : ℕ) (lines : List Kind → List Kind) (j : Judged) : Type 0 where
+  pub says : (ks : List Kind) → left (read (lines ks) (from text at)) ≡ after (j .number) (left (read ks (from text (j .next))))
   pub within : j .next ≤ length text
 
 -- the lines of a circuit in front of any others
@@ -43,23 +46,23 @@ kindsThen c ks =
     (several (λ own. literal) 0 (literals c) (several gate (2 + 2 * c .inputs + 2 * c .latches) (c .gates) ks)))
 
 -- what lines of a text are read as, and their words
-unfoldable pub linesOf : List ℕ → Counts → List Kind → List ℕ → Lines
-linesOf ending c ks t = leaves (λ l. l) (record { owns = []; words = []; rest = [] }) (readLines ending (lineTests (top c)) ks t)
+unfoldable pub linesOf : Reads → List Kind → List ℕ → Lines
+linesOf read ks t = leaves (λ l. l) (record { owns = []; words = []; rest = [] }) (read ks t)
 
-abbrev pub bodyWords : List ℕ → Counts → List Kind → List ℕ → List ℕ
-bodyWords ending c ks t = linesOf ending c ks t .words
+abbrev pub bodyWords : Reads → List Kind → List ℕ → List ℕ
+bodyWords read ks t = linesOf read ks t .words
 
 -- The text is read, and its body starts at `at`
-pub record BodyAt (ending text : List ℕ) (c : Counts) (at : ℕ) : Type 0 where
+pub record BodyAt (opening ending : List ℕ) (read : Counts → Reads) (text : List ℕ) (c : Counts) (at : ℕ) : Type 0 where
   pub bounded : Bounded c
   pub within : at ≤ length text
-  pub accepts : readLines ending (lineTests (top c)) (kinds c) (from text at) ≡ accepted (linesOf ending c (kinds c) (from text at))
-  pub reads : readEnded ending text ≡ accepted (record { counts = c; words = bodyWords ending c (kinds c) (from text at) })
+  pub accepts : read c (kinds c) (from text at) ≡ accepted (linesOf (read c) (kinds c) (from text at))
+  pub reads : readOpened opening ending read text ≡ accepted (record { counts = c; words = bodyWords (read c) (kinds c) (from text at) })
 
 -- A text judged
-abbrev pub TextJudged : List ℕ → List ℕ → Judgement → Type 0
-TextJudged ending text (Refused n) = readEnded ending text ≡ refused n
-TextJudged ending text (Body c at) = BodyAt ending text c at
+abbrev pub TextJudged : List ℕ → List ℕ → (Counts → Reads) → List ℕ → Judgement → Type 0
+TextJudged opening ending read text (Refused n) = readOpened opening ending read text ≡ refused n
+TextJudged opening ending read text (Body c at) = BodyAt opening ending read text c at
 
 -- ---- the second pass
 
@@ -79,30 +82,29 @@ abbrev pub stand : List Kind → ℕ → ℕ → List ℕ → Stand
 stand ks at p table = record { lines = ks; at = at; word = p; table = table }
 
 -- the words left
-abbrev pub wordsLeft : List ℕ → List ℕ → Counts → Stand → List ℕ
-wordsLeft ending text c s = bodyWords ending c (s .lines) (from text (s .at))
+abbrev pub wordsLeft : Reads → List ℕ → Stand → List ℕ
+wordsLeft read text s = bodyWords read (s .lines) (from text (s .at))
 
 -- Nothing refuses the lines left, and there is room for their words
-pub record Fillable (ending text : List ℕ) (c : Counts) (s : Stand) : Type 0 where
-  pub bounded : Bounded c
+pub record Fillable (read : Reads) (text : List ℕ) (s : Stand) : Type 0 where
   pub within : s .at ≤ length text
-  pub accepts : readLines ending (lineTests (top c)) (s .lines) (from text (s .at)) ≡ accepted (linesOf ending c (s .lines) (from text (s .at)))
-  pub room : s .word + length (wordsLeft ending text c s) ≤ length (s .table)
+  pub accepts : read (s .lines) (from text (s .at)) ≡ accepted (linesOf read (s .lines) (from text (s .at)))
+  pub room : s .word + length (wordsLeft read text s) ≤ length (s .table)
 
 -- The pass has come from s to t: what is left at t makes the table what it becomes from s
-pub record Filled (ending text : List ℕ) (c : Counts) (s t : Stand) : Type 0 where
-  pub left : Fillable ending text c t
+pub record Filled (read : Reads) (text : List ℕ) (s t : Stand) : Type 0 where
+  pub left : Fillable read text t
   pub long : length (t .table) ≡ length (s .table)
-  pub same : sets (t .table) (t .word) (wordsLeft ending text c t) ≡ sets (s .table) (s .word) (wordsLeft ending text c s)
+  pub same : sets (t .table) (t .word) (wordsLeft read text t) ≡ sets (s .table) (s .word) (wordsLeft read text s)
 
--- Lines of one kind stand at a place, in front of others of a body that nothing refuses
-pub record KindFillable (ending text : List ℕ) (kind : ℕ → Kind) (n : ℕ) (p : Place) (table : List ℕ) : Type 0 where
+-- Lines of one kind, the first with the literal own, stand at a place, in front of others of a body that nothing refuses
+pub record KindFillable (read : Counts → Reads) (text : List ℕ) (kind : ℕ → Kind) (own n : ℕ) (p : Place) (table : List ℕ) : Type 0 where
   pub counts : Counts
-  pub own : ℕ
+  pub bounded : Bounded counts
   pub behind : List Kind
-  pub all : Fillable ending text counts (stand (several kind own n behind) (p .at) (p .word) table)
+  pub all : Fillable (read counts) text (stand (several kind own n behind) (p .at) (p .word) table)
 
 -- and the pass has come to the others
-abbrev pub KindFilled : (ending text : List ℕ) (kind : ℕ → Kind) (n : ℕ) (p : Place) (table : List ℕ) → Place → List ℕ → Type 0
-KindFilled ending text kind n p table q table′ =
-    (f : KindFillable ending text kind n p table) → Filled ending text (f .counts) (stand (several kind (f .own) n (f .behind)) (p .at) (p .word) table) (stand (f .behind) (q .at) (q .word) table′)
+abbrev pub KindFilled : (read : Counts → Reads) (text : List ℕ) (kind : ℕ → Kind) (own n : ℕ) (p : Place) (table : List ℕ) → Place → List ℕ → Type 0
+KindFilled read text kind own n p table q table′ =
+    (f : KindFillable read text kind own n p table) → Filled (read (f .counts)) text (stand (several kind own n (f .behind)) (p .at) (p .word) table) (stand (f .behind) (q .at) (q .word) table′)

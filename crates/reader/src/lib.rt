@@ -18,7 +18,7 @@ ghost use Rattle.three.specs.Lists.{over};
 ghost use Rattle.circuit.specs.Refusal.{refusal};
 ghost use Rattle.circuit.specs.Table.{top, input, latch, literal, gate, several, kinds};
 ghost use Rattle.circuit.specs.RulesInCode.{Bounded};
-ghost use Rattle.text.specs.Text.{words, lineTests, ends, header as firstLine, countsOf, headerTests, endingOf};
+ghost use Rattle.text.specs.Text.{magic as plainMagic, words, lineTests, ends, firstLine, header as plainHeader, countsOf, headerTests, readLines, circuitLines, endingOf};
 ghost use Rattle.text.specs.Calls.{zeros, Reading};
 ghost use Rattle.lines.specs.LinesInCode.{from, endingBytes, Shape, numbersOf, LineFound};
 ghost use Rattle.reader.specs.ReaderInCode.{opened, LinesJudged, kindsThen, TextJudged, WordsFit, bodyWords, stand, Fillable, KindFillable, KindFilled};
@@ -27,27 +27,37 @@ ghost use Rattle.text.specs.KindsInCode.{coded};
 // At most 60,000 bytes.
 pub const MOST_TEXT: usize = 60000;
 
-fn opens(text: &[u8]) -> bool
-    ensures { λ r. ⌜ r ≡ opened (now (text .entry)) ⌝ }
+fn opens(text: &[u8], magic: &[u8; 4]) -> bool
+    requires { ⌜ length (now magic) ≡ 4 ⌝ }
+    ensures { λ r. ⌜ r ≡ opened (now (magic .entry)) (now (text .entry)) ⌝ }
 {
     if text.len() < 4 {
         return false;
     }
     for i in 0..4 {
-        if text[i] != MAGIC[i] {
+        if text[i] != magic[i] {
             return false;
         }
     }
     true
 }
 
-pub fn header(text: &[u8], ending: Ending) -> ReadLine
-    ensures { λ r. ⌜ LineFound (now (text .entry)) (firstLine (endingBytes ending) (now (text .entry))) r ⌝ }
+// A first line that opens with these bytes.
+pub fn first_line(text: &[u8], magic: &[u8; 4], ending: Ending) -> ReadLine
+    requires { ⌜ length (now magic) ≡ 4 ⌝ }
+    ensures { λ r. ⌜ LineFound (now (text .entry)) (firstLine (now (magic .entry)) (endingBytes ending) (now (text .entry))) r ⌝ }
 {
-    if !opens(text) {
+    if !opens(text, magic) {
         return lines::no_line(0);
     }
     lines::line(text, 4, ending, MOST_NUMBERS)
+}
+
+pub fn header(text: &[u8], ending: Ending) -> ReadLine
+    ensures { λ r. ⌜ LineFound (now (text .entry)) (plainHeader (endingBytes ending) (now (text .entry))) r ⌝ }
+{
+    let magic = MAGIC;
+    first_line(text, &magic, ending)
 }
 
 // I, L, O and A of the first line.
@@ -63,7 +73,7 @@ pub fn counts_of(first: ReadLine) -> Counts
 }
 
 // 2 and 3, for the first line; 0 for none. An ill-formed line has no numbers, which is 2.
-fn header_refusal(first: ReadLine) -> u32
+pub fn header_refusal(first: ReadLine) -> u32
     requires { ⌜ Shape first ⌝ }
     ensures { λ r. ⌜ r ≡ refusal (headerTests (numbersOf first)) ⌝ }
 {
@@ -157,7 +167,7 @@ fn gate_refusal(own: usize, most: usize, found: ReadLine) -> u32
 }
 
 // 4, 5, 6, then 7 or 8, for a line of a kind with its own literal; 0 for none. An ill-formed line has no numbers, which is 4.
-fn line_refusal(kind: u8, own: usize, most: usize, found: ReadLine) -> u32
+pub fn line_refusal(kind: u8, own: usize, most: usize, found: ReadLine) -> u32
     requires { ⌜ Shape found ⌝ }
     ensures { λ r. ⌜ r ≡ refusal (lineTests most (coded kind own) (numbersOf found)) ⌝ }
 {
@@ -174,14 +184,14 @@ fn line_refusal(kind: u8, own: usize, most: usize, found: ReadLine) -> u32
 }
 
 // A refusal of lines, 0 for none, and the position behind them.
-struct Judged {
-    number: u32,
-    next: usize,
+pub struct Judged {
+    pub number: u32,
+    pub next: usize,
 }
 
 fn judge_line(text: &[u8], at: usize, ending: Ending, kind: u8, own: usize, most: usize) -> Judged
     requires { ⌜ at ≤ length (now text) ⌝ }
-    ensures { λ r. ⌜ LinesJudged (endingBytes ending) (now (text .entry)) at (lineTests most) (λ ks. coded kind own ∷ ks) r ⌝ }
+    ensures { λ r. ⌜ LinesJudged (readLines (endingBytes ending) (lineTests most)) (now (text .entry)) at (λ ks. coded kind own ∷ ks) r ⌝ }
 {
     let found = lines::line(text, at, ending, BODY_NUMBERS);
     Judged {
@@ -201,7 +211,7 @@ fn judge_lines(
     most: usize,
 ) -> Judged
     requires { ⌜ (at ≤ length (now text)) × (own + 2 * count ≤ 10000) ⌝ }
-    ensures { λ r. ⌜ LinesJudged (endingBytes ending) (now (text .entry)) at (lineTests most) (several (coded kind) own count) r ⌝ }
+    ensures { λ r. ⌜ LinesJudged (readLines (endingBytes ending) (lineTests most)) (now (text .entry)) at (several (coded kind) own count) r ⌝ }
 {
     let mut next = at;
     for i in 0..count {
@@ -234,7 +244,7 @@ pub fn ended(text: &[u8], at: usize, ending: Ending) -> bool
 // One line for each input, latch, lamp and gate, in that order.
 fn judge_body(text: &[u8], at: usize, ending: Ending, counts: Counts) -> Judged
     requires { ⌜ Bounded counts × (at ≤ length (now text)) ⌝ }
-    ensures { λ r. ⌜ LinesJudged (endingBytes ending) (now (text .entry)) at (lineTests (top counts)) (kindsThen counts) r ⌝ }
+    ensures { λ r. ⌜ LinesJudged (readLines (endingBytes ending) (lineTests (top counts))) (now (text .entry)) at (kindsThen counts) r ⌝ }
 {
     let latch = 2 + 2 * counts.inputs;
     let gate = latch + 2 * counts.latches;
@@ -286,8 +296,8 @@ pub enum Judgement {
 
 // Reader: 1, 2, 3, then line by line (4, 5, 6, then 7 or 8), 9: once over the text, and nothing is written.
 pub fn judge(text: &[u8], ending: Ending, first: ReadLine) -> Judgement
-    requires { ⌜ LineFound (now text) (firstLine (endingBytes ending) (now text)) first ⌝ }
-    ensures { λ r. ⌜ TextJudged (endingBytes ending) (now (text .entry)) r ⌝ }
+    requires { ⌜ LineFound (now text) (plainHeader (endingBytes ending) (now text)) first ⌝ }
+    ensures { λ r. ⌜ TextJudged plainMagic (endingBytes ending) (circuitLines (endingBytes ending)) (now (text .entry)) r ⌝ }
 {
     if text.len() > MOST_TEXT {
         return Judgement::Refused(1);
@@ -308,13 +318,13 @@ pub fn judge(text: &[u8], ending: Ending, first: ReadLine) -> Judgement
 }
 
 // Where the second pass stands: in the text and in the table.
-struct Place {
-    at: usize,
-    word: usize,
+pub struct Place {
+    pub at: usize,
+    pub word: usize,
 }
 
 // A word stored; the place behind it.
-fn fill_word(value: usize, table: &mut [u16], word: usize) -> usize
+pub fn fill_word(value: usize, table: &mut [u16], word: usize) -> usize
     requires { ⌜ (value < 65536) × (word < length (now table)) ⌝ }
     ensures { λ r. ⌜ (now (table .exit) ≡ sets (now (table .entry)) word (value ∷ [])) × (r ≡ word + 1) ⌝ }
 {
@@ -349,8 +359,8 @@ fn fill_lines(
     count: usize,
     table: &mut [u16],
 ) -> Place
-    requires { ⌜ KindFillable (endingBytes ending) (now text) (coded kind) count start (now table) ⌝ }
-    ensures { λ r. ⌜ KindFilled (endingBytes ending) (now (text .entry)) (coded kind) count start (now (table .entry)) r (now (table .exit)) ⌝ }
+    requires { ⌜ ((own : ℕ) × KindFillable (circuitLines (endingBytes ending)) (now text) (coded kind) own count start (now table)) ⌝ }
+    ensures { λ r. ⌜ ((own : ℕ) → KindFilled (circuitLines (endingBytes ending)) (now (text .entry)) (coded kind) own count start (now (table .entry)) r (now (table .exit))) ⌝ }
 {
     let mut at = start.at;
     let mut word = start.word;
@@ -364,8 +374,8 @@ fn fill_lines(
 
 // The words of a body that nothing refuses, into the front of the table.
 pub fn fill(text: &[u8], at: usize, ending: Ending, counts: Counts, table: &mut [u16])
-    requires { ⌜ Fillable (endingBytes ending) (now text) counts (stand (kinds counts) at 0 (now table)) ⌝ }
-    ensures { λ _. ⌜ now (table .exit) ≡ over (bodyWords (endingBytes ending) counts (kinds counts) (from (now (text .entry)) at)) (now (table .entry)) ⌝ }
+    requires { ⌜ Bounded counts × Fillable (circuitLines (endingBytes ending) counts) (now text) (stand (kinds counts) at 0 (now table)) ⌝ }
+    ensures { λ _. ⌜ now (table .exit) ≡ over (bodyWords (circuitLines (endingBytes ending) counts) (kinds counts) (from (now (text .entry)) at)) (now (table .entry)) ⌝ }
 {
     let body = Place { at: at, word: 0 };
     let latches = fill_lines(text, body, ending, INPUT_LINE, counts.inputs, table);
@@ -404,7 +414,7 @@ pub fn refused(number: u32) -> ReadAnswer
 
 // The text is judged as a whole before a word is stored; every line has the first one's ending.
 fn read_ended(text: &[u8], ending: Ending, first: ReadLine, table: &mut [u16]) -> ReadAnswer
-    requires { ⌜ LineFound (now text) (firstLine (endingBytes ending) (now text)) first × (endingOf (now text) ≡ endingBytes ending) ⌝ }
+    requires { ⌜ LineFound (now text) (plainHeader (endingBytes ending) (now text)) first × (endingOf (now text) ≡ endingBytes ending) ⌝ }
     ensures { λ r. ⌜ Reading (now (text .entry)) (now (table .entry)) (r .number) (r .counts) (now (table .exit)) ⌝ }
 {
     let judgement = judge(text, ending, first);

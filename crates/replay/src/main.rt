@@ -3,7 +3,9 @@
 //
 //   read WORDS BYTES TEXT                                      a table of WORDS words; the text, `x` behind it up to BYTES
 //   any TABLEWORDS LISTWORDS BYTES TEXT                        a table and a list of so many words; the text as above
+//   readbinary WORDS BYTES TEXT                                as `read`, for the binary form
 //   write I L O A WORDS w.. BYTES                              the table; a text buffer of BYTES bytes
+//   writebinary I L O A WORDS w.. BYTES                        as `write`, for the binary form
 //   tick I L O A WORDS w.. STATE b.. SWITCHES b.. NEXT LAMPS   the table, two records; the lengths of the results
 //   chain I L O A WORDS w.. W CUBES                            the table; the interval; the length of the cubes' buffer
 //   judge I L O A WORDS w.. CUBES b.. N J VERDICT SETTLED      the table, the cubes, n, j; the lengths of the results
@@ -107,6 +109,42 @@ fn read_vector(line: &[u8]) {
     read_lent(&text, bytes.value, words.value);
 }
 
+// ---- readbinary
+
+fn show_read_binary(text: &[u8], table: &mut [u16]) {
+    let answer = binary_reader::read_binary(text, table);
+    say_number(b"readbinary number ", answer.number as usize);
+    let counts = answer.counts;
+    say_number(b" I ", counts.inputs);
+    say_number(b" L ", counts.latches);
+    say_number(b" O ", counts.lamps);
+    say_number(b" A ", counts.gates);
+    say_words(b"; table", table);
+    say(b"\n");
+}
+
+fn read_binary_lent(text: &[u8], bytes: usize, words: usize) {
+    let mut table = [UNTOUCHED_WORD; MOST_WORDS];
+    let given = bytes_within(bytes, text);
+    let lent = words_within(words, &table);
+    if given < bytes || lent < words {
+        too_large();
+        return;
+    }
+    show_read_binary(&text[..given], &mut table[..lent]);
+}
+
+fn read_binary_vector(line: &[u8]) {
+    let words = vector::number(line, 11);
+    let bytes = vector::next(line, words);
+    let mut text = [b'x'; MOST_BYTES];
+    if !vector::text(line, bytes, &mut text) {
+        not_a_vector();
+        return;
+    }
+    read_binary_lent(&text, bytes.value, words.value);
+}
+
 // ---- any
 
 fn show_any(text: &[u8], table: &mut [u16], renumbered: &mut [u16]) {
@@ -183,6 +221,39 @@ fn write_vector(line: &[u8]) {
     }
     let counts = circuit.counts;
     write_lent(counts, &table, circuit.words, bytes.value);
+}
+
+// ---- writebinary
+
+fn show_write_binary(counts: Counts, table: &[u16], text: &mut [u8]) {
+    let answer = binary_writer::write_binary(counts, table, text);
+    say_number(b"writebinary number ", answer.number as usize);
+    say_number(b" bytes ", answer.bytes);
+    say_bytes(b"; text", text);
+    say(b"\n");
+}
+
+fn write_binary_lent(counts: Counts, table: &[u16], words: usize, bytes: usize) {
+    let mut text = [UNTOUCHED; MOST_BYTES];
+    let given = words_within(words, table);
+    let lent = bytes_within(bytes, &text);
+    if given < words || lent < bytes {
+        too_large();
+        return;
+    }
+    show_write_binary(counts, &table[..given], &mut text[..lent]);
+}
+
+fn write_binary_vector(line: &[u8]) {
+    let mut table = [0u16; MOST_WORDS];
+    let circuit = circuit_at(line, 12, &mut table);
+    let bytes = vector::next(line, circuit.behind);
+    if !vector::ends(line, bytes) {
+        not_a_vector();
+        return;
+    }
+    let counts = circuit.counts;
+    write_binary_lent(counts, &table, circuit.words, bytes.value);
 }
 
 // ---- tick
@@ -619,10 +690,14 @@ fn answer(line: &[u8]) {
         say(b"\n");
     } else if vector::opens(line, b"read ") {
         read_vector(line);
+    } else if vector::opens(line, b"readbinary ") {
+        read_binary_vector(line);
     } else if vector::opens(line, b"any ") {
         any_vector(line);
     } else if vector::opens(line, b"write ") {
         write_vector(line);
+    } else if vector::opens(line, b"writebinary ") {
+        write_binary_vector(line);
     } else if vector::opens(line, b"tick ") {
         tick_vector(line);
     } else if vector::opens(line, b"chain ") {

@@ -67,7 +67,7 @@ module _ (text table : List ℕ) (room : 7742 ≤ length table) where
   words-fit {c} e = omega (arith, room, taken (c .counts) (c .words) (describes text e .legal) .bounded)
 
   fits : {c : Content} → readText text ≡ accepted c → readInto text table ≡ accepted c
-  fits e = read-fits text table e (words-fit e)
+  fits e = read-fits table e (words-fit e)
 
   module _ {number : ℕ} {counts : Counts} {table′ : List ℕ} (reading : Reading text table number counts table′) where
     -- a refusal is the text's own
@@ -77,7 +77,7 @@ module _ (text table : List ℕ) (room : 7742 ≤ length table) where
       where
         go : (o : Outcome Content) → readText text ≡ o → refusing number ≡ reportOf text
         go (accepted c) e = absurd (h (reading .answers ∙ ap numberOf (fits e)))
-        go (refused n) e = ap refusing (reading .answers ∙ ap numberOf (read-stops text table e)) ∙ ap reported (sym e)
+        go (refused n) e = ap refusing (reading .answers ∙ ap numberOf (read-stops table e)) ∙ ap reported (sym e)
 
     pub read-accepted : number ≡ 0 → Read text counts table′
     unfolding numberOf leaves
@@ -92,7 +92,7 @@ module _ (text table : List ℕ) (room : 7742 ≤ length table) where
         }
         go (refused n) e =
             let some : 1 ≤ n = rw e at (read-numbered text) in
-            absurd (omega (arith, some, z, reading .answers ∙ ap numberOf (read-stops text table e)))
+            absurd (omega (arith, some, z, reading .answers ∙ ap numberOf (read-stops table e)))
 
 pub few : {text : List ℕ} {counts : Counts} {table : List ℕ} → Read text counts table → Bounded counts
 few read = rw (read .counts-are) (read .carries .few)

@@ -12,7 +12,7 @@ use Rattle.circuit.specs.RulesInCode.{Passed, Bounded}
 use Rattle.circuit.specs.Table.{variables, top, ceilingTests, Kind, input, latch, literal, gate, several, kinds, width, rowTests, tableTests, wordTests, circuitTests, literals, literalTests, operandTests}
 use Rattle.text.specs.Decimal.{digits, decimal}
 use Rattle.text.specs.Line.{lineText, endedLine}
-use Rattle.text.specs.Text.{shown, numbers, headNumbers, writeBody, writeText}
+use Rattle.text.specs.Text.{shown, numbers, headNumbers, lineOf, writeRows, writeOpened, writeText}
 use Rattle.circuit.proofs.Refusals.{passed-append}
 use Rattle.text.proofs.Decimals.{length-below, length-monotone}
 use Rattle.text.proofs.Tables.{Taken, taken}
@@ -24,14 +24,14 @@ room (latch own) = 2 * length (decimal own) + 7
 room literal = 5
 room (gate own) = 3 * length (decimal own) + 3
 
--- the same for several lines
-rooms : List Kind → ℕ
-rooms [] = 0
-rooms (k ∷ ks) = room k + rooms ks
+-- the same for several lines, by the room of each
+unfoldable pub rooms : (Kind → ℕ) → List Kind → ℕ
+rooms each [] = 0
+rooms each (k ∷ ks) = each k + rooms each ks
 
 -- ---- lines that keep the rules stay within their room
 
-one-digit : (n : ℕ) → 1 ≤ length (decimal n)
+pub one-digit : (n : ℕ) → 1 ≤ length (decimal n)
 unfolding decimal digits
 one-digit n = length-monotone 0 n (omega arith)
 
@@ -49,8 +49,8 @@ line-room most literal ws m p = simp length-append (omega (arith, length-below 3
 line-room most (gate own) ws m p =
     simp length-append (omega (arith, length-monotone (getD ws 0 0) own (omega (arith, ltb-true)), length-monotone (getD ws 1 0) own (omega (arith, ltb-true))))
 
-body-room : (most : ℕ) (ks : List Kind) (ws : List ℕ) → most ≤ 8191 → Passed (tableTests most ks ws) → length (writeBody ks ws) ≤ rooms ks
-unfolding writeBody tableTests rooms
+body-room : (most : ℕ) (ks : List Kind) (ws : List ℕ) → most ≤ 8191 → Passed (tableTests most ks ws) → length (writeRows lineOf ks ws) ≤ rooms room ks
+unfolding writeRows lineOf tableTests rooms
 body-room most [] ws m p = omega arith
 body-room most (k ∷ ks) ws m p =
     let q = passed-append (rowTests most k ws) (tableTests most ks (drop (width k) ws)) p in
@@ -62,42 +62,55 @@ body-room most (k ∷ ks) ws m p =
 unfoldable pub ceiling : Counts
 ceiling = record { inputs = 256; latches = 512; lamps = 64; gates = 3327 }
 
-rooms-ceiling : rooms (kinds ceiling) ≡ 58390
+-- larger own literals take no less room
+pub record Growing (each : Kind → ℕ) : Type 0 where
+  pub inputs : (a b : ℕ) → a ≤ b → each (input a) ≤ each (input b)
+  pub latches : (a b : ℕ) → a ≤ b → each (latch a) ≤ each (latch b)
+  pub gates : (a b : ℕ) → a ≤ b → each (gate a) ≤ each (gate b)
+
+module _ (each : Kind → ℕ) where
+  rooms-several : (kind : ℕ → Kind) → ((a b : ℕ) → a ≤ b → each (kind a) ≤ each (kind b))
+      → (a b n m : ℕ) (ks js : List Kind) → a ≤ b → n ≤ m → rooms each ks ≤ rooms each js → rooms each (several kind a n ks) ≤ rooms each (several kind b m js)
+  unfolding several rooms
+  rooms-several kind mono a b zero zero ks js p q h = h
+  rooms-several kind mono a b zero (suc m) ks js p q h = omega (arith, rooms-several kind mono a (b + 2) zero m ks js (omega arith) (omega arith) h)
+  rooms-several kind mono a b (suc n) zero ks js p q h = absurd (omega arith)
+  rooms-several kind mono a b (suc n) (suc m) ks js p q h = omega (arith, mono a b p, rooms-several kind mono (a + 2) (b + 2) n m ks js (omega arith) (omega arith) h)
+
+  pub rooms-kinds : Growing each → (c : Counts) → Bounded c → rooms each (kinds c) ≤ rooms each (kinds ceiling)
+  unfolding kinds ceiling
+  rooms-kinds grows c b =
+      rooms-several input (grows .inputs) _ _ (c .inputs) 256 _ _ (omega arith) (b .inputs)
+      (rooms-several latch (grows .latches) _ _ (c .latches) 512 _ _ (omega arith) (b .latches)
+      (rooms-several (λ own. literal) (λ x y h. omega arith) _ _ (literals c) 64 _ _ (omega arith) (b .lamps)
+      (rooms-several gate (grows .gates) _ _ (c .gates) 3327 _ _ (omega arith) (b .gates) (omega arith))))
+
+lines-grow : Growing room
+unfolding room
+lines-grow = record { inputs = λ x y h. omega (arith, length-monotone x y h); latches = λ x y h. omega (arith, length-monotone x y h); gates = λ x y h. omega (arith, length-monotone x y h) }
+
+rooms-ceiling : rooms room (kinds ceiling) ≡ 58390
 unfolding rooms room kinds ceiling several decimal digits
 rooms-ceiling = refl
 
-rooms-several : (kind : ℕ → Kind) → ((a b : ℕ) → a ≤ b → room (kind a) ≤ room (kind b))
-    → (a b n m : ℕ) (ks js : List Kind) → a ≤ b → n ≤ m → rooms ks ≤ rooms js → rooms (several kind a n ks) ≤ rooms (several kind b m js)
-unfolding several rooms
-rooms-several kind mono a b zero zero ks js p q h = h
-rooms-several kind mono a b zero (suc m) ks js p q h = omega (arith, rooms-several kind mono a (b + 2) zero m ks js (omega arith) (omega arith) h)
-rooms-several kind mono a b (suc n) zero ks js p q h = absurd (omega arith)
-rooms-several kind mono a b (suc n) (suc m) ks js p q h = omega (arith, mono a b p, rooms-several kind mono (a + 2) (b + 2) n m ks js (omega arith) (omega arith) h)
-
-rooms-kinds : (c : Counts) → Bounded c → rooms (kinds c) ≤ rooms (kinds ceiling)
-unfolding kinds room ceiling
-rooms-kinds c b =
-    rooms-several input (λ x y h. omega (arith, length-monotone x y h)) _ _ (c .inputs) 256 _ _ (omega arith) (b .inputs)
-    (rooms-several latch (λ x y h. omega (arith, length-monotone x y h)) _ _ (c .latches) 512 _ _ (omega arith) (b .latches)
-    (rooms-several (λ own. literal) (λ x y h. omega arith) _ _ (literals c) 64 _ _ (omega arith) (b .lamps)
-    (rooms-several gate (λ x y h. omega (arith, length-monotone x y h)) _ _ (c .gates) 3327 _ _ (omega arith) (b .gates) (omega arith))))
+-- the first line behind the four bytes
+pub head-room : (c : Counts) → Bounded c → length (lineText (headNumbers c)) ≤ 21
+unfolding headNumbers endedLine
+head-room c b = simp length-append (omega (
+  arith,
+  length-below 3 (variables c) (omega arith),
+  length-below 2 (c .inputs) (omega arith),
+  length-below 2 (c .latches) (omega arith),
+  length-below 1 (c .lamps) (omega arith),
+  length-below 3 (c .gates) (omega arith),
+))
 
 pub text-bound : (c : Counts) (table : List ℕ) → 0 ≡ refusal (circuitTests c table) → length (writeText c table) ≤ 58415
-unfolding writeText headNumbers endedLine
+unfolding writeOpened
 text-bound c table e =
     let k : Taken c table = taken c table e in
     let b : Bounded c = k .bounded in
-    simp length-append (omega (
-      arith,
-      length-below 3 (variables c) (omega arith),
-      length-below 2 (c .inputs) (omega arith),
-      length-below 2 (c .latches) (omega arith),
-      length-below 1 (c .lamps) (omega arith),
-      length-below 3 (c .gates) (omega arith),
-      body-room (top c) (kinds c) table (omega arith) (k .rules),
-      rooms-kinds c b,
-      rooms-ceiling,
-    ))
+    simp length-append (omega (arith, head-room c b, body-room (top c) (kinds c) table (omega arith) (k .rules), rooms-kinds room lines-grow c b, rooms-ceiling))
 
 -- ---- the bound is reached
 
@@ -108,13 +121,14 @@ longest (latch own) = 8191 ∷ 2 ∷ []
 longest literal = 8191 ∷ []
 longest (gate own) = (own - 1) ∷ (own - 1) ∷ []
 
-longestWords : List Kind → List ℕ
-longestWords [] = []
-longestWords (k ∷ ks) = longest k ++ longestWords ks
+-- the words of several lines, by those of each
+unfoldable pub wordsBy : (Kind → List ℕ) → List Kind → List ℕ
+wordsBy each [] = []
+wordsBy each (k ∷ ks) = each k ++ wordsBy each ks
 
 pub longestTable : List ℕ
-longestTable = longestWords (kinds ceiling)
+longestTable = wordsBy longest (kinds ceiling)
 
 pub bound-reached : (0 ≡ refusal (circuitTests ceiling longestTable)) × (length (writeText ceiling longestTable) ≡ 58415)
-unfolding refusal circuitTests ceilingTests wordTests allHold tableTests rowTests literalTests operandTests width ceiling kinds several longest longestWords longestTable writeText headNumbers writeBody numbers shown endedLine decimal digits
+unfolding refusal circuitTests ceilingTests wordTests allHold tableTests rowTests literalTests operandTests width ceiling kinds several longest wordsBy longestTable writeOpened headNumbers writeRows lineOf numbers shown endedLine decimal digits
 bound-reached = (refl, refl)

@@ -9,7 +9,7 @@ use Rattle.text.specs.Part.{got, ill}
 use Rattle.text.specs.Decimal.{isDigit}
 use Rattle.text.specs.Line.{newline, officeNewline, space, strip, prepend, splitLine, endedLine}
 use Rattle.text.specs.Outcome.{accepted}
-use Rattle.text.specs.Text.{headNumbers, header, endingOf, Content, readText}
+use Rattle.text.specs.Text.{headNumbers, firstLine, header, endingOf, Content, readText}
 use Rattle.text.proofs.Parts.{by-part}
 use Rattle.text.proofs.Numerals.{noDigit, decimal-read}
 use Rattle.text.proofs.Lines.{Short, Proper, newline-proper, number-more, number-other, strip-front}
@@ -50,7 +50,7 @@ pub ending-is : (t : List ℕ) → LineEnding (endingOf t)
 ending-is t = by-part (header newline t) (λ ns r e. rw (ending-plain t e) byNewline) (λ e. rw (ending-office t e) byOffice)
 
 pub ending-described : {ending t : List ℕ} {c : Content} → LineEnding ending → Describes ending t c → endingOf t ≡ ending
-unfolding header strip headNumbers
+unfolding firstLine strip headNumbers
 ending-described {t = t} byNewline d = ending-plain t (described-header newline-proper d)
 ending-described {t = t} {c = c} byOffice d =
     let f = head-fits (c .counts) (taken (c .counts) (c .words) (d .legal) .bounded) in

@@ -14,7 +14,7 @@ use Rattle.circuit.specs.Table.{variables, top, tableLength, Kind, kinds, width
 use Rattle.text.specs.Part.{got, ill}
 use Rattle.text.specs.Line.{endedLine, strip}
 use Rattle.text.specs.Outcome.{accepted, onward}
-use Rattle.text.specs.Text.{magic, headNumbers, words, shownOwn, lineTests, ends, Lines, readLines, header, countsOf, headerTests, Content, readEnded}
+use Rattle.text.specs.Text.{magic, headNumbers, words, shownOwn, lineTests, ends, Lines, readLines, firstLine, header, countsOf, headerTests, Content, circuitLines, readEnded}
 use Rattle.text.proofs.Parts.{by-part}
 use Rattle.circuit.proofs.Refusals.{passed-append, passed-refusal}
 use Rattle.text.proofs.Outcomes.{append-passed, accepted-same}
@@ -60,7 +60,7 @@ says-read {ending} e most m o (line {k = k} {ks = ks} {all = all} {ws = ws} {ns 
           ∙ rw (others .1, v .gives),
     )
 
-closing-ends : (ending : List ℕ) {r : List ℕ} → Closing ending r → ends ending r ≡ true
+pub closing-ends : (ending : List ℕ) {r : List ℕ} → Closing ending r → ends ending r ≡ true
 unfolding ends
 closing-ends ending done = refl
 closing-ends ending (noted t) = rw (ends, strip-front (99 ∷ ending) t)
@@ -70,11 +70,13 @@ pub head-fits : (c : Counts) → Bounded c → Short (headNumbers c) × Passed (
 unfolding headNumbers headerTests countsOf
 head-fits c b = (omega arith, (refl, (eq-eqb (variables c) (variables c) refl, bounded-passed c b)))
 
+pub header-back : (opening : List ℕ) {ending : List ℕ} → Proper ending → (c : Counts) → Bounded c → (body : List ℕ)
+    → firstLine opening ending (opening ++ (endedLine ending (headNumbers c) ++ body)) ≡ got (headNumbers c) body
+unfolding firstLine headNumbers
+header-back opening {ending} proper c b body = rw (firstLine, strip-front opening _) (line-split ending proper 5 (headNumbers c) body (omega arith) (omega arith) (head-fits c b .0))
+
 pub described-header : {ending t : List ℕ} {c : Content} → Proper ending → (d : Describes ending t c) → header ending t ≡ got (headNumbers (c .counts)) (d .body)
-unfolding header strip headNumbers
-described-header {ending} {t} {c} proper d =
-    let f = head-fits (c .counts) (taken (c .counts) (c .words) (d .legal) .bounded) in
-    rw (d .text) (line-split ending proper 5 (headNumbers (c .counts)) (d .body) (omega arith) (omega arith) (f .0))
+described-header {c = c} proper d = rw (d .text) (header-back magic proper (c .counts) (taken (c .counts) (c .words) (d .legal) .bounded) (d .body))
 
 pub described-read : {ending t : List ℕ} {c : Content} → Proper ending → Describes ending t c → readEnded ending t ≡ accepted c
 unfolding headNumbers countsOf onward
@@ -83,12 +85,12 @@ described-read {ending} {t} {c} proper d =
     let k : Taken n (c .words) = taken n (c .words) (d .legal) in
     let b = k .bounded in
     let f = head-fits n b in
-    header-fits ending t (d .short) (described-header proper d) (passed-refusal _ (f .1)) ∙ rw (end-fits ending (says-read proper (top n) (omega arith) (owned-kinds n) (d .says) (k .rules) .1) (closing-ends ending (d .closes)))
+    header-fits magic ending (circuitLines ending) t (d .short) (described-header proper d) (passed-refusal _ (f .1)) ∙ rw (end-fits ending (says-read proper (top n) (omega arith) (owned-kinds n) (d .says) (k .rules) .1) (closing-ends ending (d .closes)))
 
 -- ---- what is read describes a circuit
 
 -- a proper end
-ends-closing : (ending t : List ℕ) → ends ending t ≡ true → Closing ending t
+pub ends-closing : (ending t : List ℕ) → ends ending t ≡ true → Closing ending t
 unfolding ends
 ends-closing ending [] e = done
 ends-closing ending (b ∷ t) e = by-part (strip (99 ∷ ending) (b ∷ t)) (λ u r f. rw (front-strip (99 ∷ ending) (b ∷ t) r f) (noted r)) (λ f. absurd (false≢true (rw (f, ends) at e)))
@@ -116,20 +118,20 @@ read-body ending most [] t a = rw (← (accepted-same a)) (record { says = stop;
 read-body ending most (k ∷ ks) t a = let f = line-accepted ending (lineTests most) k ks t (line-numbered most k) a in body-line f (read-body ending most ks (f .behind) (f .on))
 
 -- the first line is made of the counts in it
-head-counts : (ns : List ℕ) → Passed (headerTests ns) → ns ≡ headNumbers (countsOf ns)
+pub head-counts : (ns : List ℕ) → Passed (headerTests ns) → ns ≡ headNumbers (countsOf ns)
 unfolding headerTests countsOf headNumbers tabulate
 head-counts ns p = listed 5 ns (eqb-true (length ns) 5 (p .0)) ∙ rw (eqb-true (getD ns 0 0) (variables (countsOf ns)) (p .1 .0))
 
-header-text : (ending t : List ℕ) {ns r : List ℕ} → header ending t ≡ got ns r → t ≡ magic ++ (endedLine ending ns ++ r)
-unfolding header
-header-text ending t a = by-part (strip magic t)
-    (λ u s e. front-strip magic t s e ∙ ap (λ x. magic ++ x) (split-line ending 5 (rw (header, e) at a) .text))
-    (λ e. let z : ill ≡ got _ _ = rw (header, e) at a in cc)
+pub header-text : (opening ending t : List ℕ) {ns r : List ℕ} → firstLine opening ending t ≡ got ns r → t ≡ opening ++ (endedLine ending ns ++ r)
+unfolding firstLine
+header-text opening ending t a = by-part (strip opening t)
+    (λ u s e. front-strip opening t s e ∙ ap (λ x. opening ++ x) (split-line ending 5 (rw (firstLine, e) at a) .text))
+    (λ e. let z : ill ≡ got _ _ = rw (firstLine, e) at a in cc)
 
 pub read-describes : (ending t : List ℕ) {c : Content} → readEnded ending t ≡ accepted c → Describes ending t c
 unfolding headerTests
 read-describes ending t a =
-    let h = header-accepted ending t a in
+    let h = header-accepted magic ending (circuitLines ending) t a in
     let n : Counts = countsOf (h .numbers) in
     let b = read-body ending (top n) (kinds n) (h .behind) (h .on) in
     rw (← (h .gives)) (record {
@@ -137,7 +139,7 @@ read-describes ending t a =
       legal = taken-refusal (record { bounded = passed-bounded n (h .passes .1 .1); long = omega (arith, size-kinds n); rules = b .rules });
       whole = b .sized ∙ size-kinds n;
       body = h .behind;
-      text = header-text ending t (h .split) ∙ ap (λ x. magic ++ (endedLine ending x ++ h .behind)) (head-counts (h .numbers) (h .passes));
+      text = header-text magic ending t (h .split) ∙ ap (λ x. magic ++ (endedLine ending x ++ h .behind)) (head-counts (h .numbers) (h .passes));
       rest = h .lines .rest;
       says = b .says;
       closes = ends-closing ending _ (h .closed);

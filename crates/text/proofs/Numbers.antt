@@ -2,13 +2,15 @@
 use mathlib.Core.List.{List, [], _∷_}
 use Prim.Native.Nat.{ℕ, zero, suc, _≤_}
 use native.Mathlib.Omega.{arith}
+use Rattle.circuit.specs.declared.Counts.{Counts}
 use Rattle.circuit.specs.Refusal.{Test, refusal}
 use Rattle.circuit.specs.Table.{Kind, kinds}
 use Rattle.text.specs.Line.{readLine}
 use Rattle.text.specs.Outcome.{Outcome, accepted, refused, tested, further, onward}
 use Rattle.text.specs.OutcomeInCode.{after}
-use Rattle.text.specs.Text.{readLines, header, countsOf, readEnded, readText, endingOf}
+use Rattle.text.specs.Text.{readLines, firstLine, countsOf, readOpened, readText}
 use Rattle.text.proofs.Parts.{by-part}
+use Rattle.text.proofs.Steps.{Read}
 
 abbrev pub HasNumber : {A : Type 0} → Outcome A → Type 0
 HasNumber (accepted a) = Unit {0}
@@ -39,12 +41,12 @@ lines-numbered ending tests (k ∷ ks) t = by-part (readLine ending t)
     (λ ns rest e. rw (readLines, e) (tested-numbered _ _ (onward-numbered _ _ (lines-numbered ending tests ks rest))))
     (λ e. rw (readLines, e) (omega arith))
 
-ended-numbered : (ending t : List ℕ) → HasNumber (readEnded ending t)
-unfolding readEnded
-ended-numbered ending t = by-part (header ending t)
-    (λ ns rest e. rw (readEnded, e) (tested-numbered _ _ (tested-numbered _ _ (onward-numbered _ _ (further-numbered _ _ (lines-numbered _ _ (kinds (countsOf ns)) rest))))))
-    (λ e. rw (readEnded, e) (tested-numbered _ (refused 2) (omega arith)))
+opened-numbered : (opening ending : List ℕ) (read : Read) → ((c : Counts) (t : List ℕ) → HasNumber (read c (kinds c) t)) → (t : List ℕ) → HasNumber (readOpened opening ending read t)
+unfolding readOpened
+opened-numbered opening ending read h t = by-part (firstLine opening ending t)
+    (λ ns rest e. rw (readOpened, e) (tested-numbered _ _ (tested-numbered _ _ (onward-numbered _ _ (further-numbered _ _ (h (countsOf ns) rest))))))
+    (λ e. rw (readOpened, e) (tested-numbered _ (refused 2) (omega arith)))
 
 pub read-numbered : (t : List ℕ) → HasNumber (readText t)
 unfolding readText
-read-numbered t = ended-numbered (endingOf t) t
+read-numbered t = opened-numbered _ _ _ (λ c r. lines-numbered _ _ (kinds c) r) t

@@ -13,7 +13,7 @@ use Rattle.circuit.specs.Table.{top, tableLength, Kind, input, latch, literal, 
 use Rattle.circuit.proofs.Refusals.{passed-append}
 use Rattle.circuit.specs.RulesInCode.{Bounded, Passed}
 use Rattle.text.specs.Outcome.{accepted}
-use Rattle.text.specs.Text.{numbers, writeBody, writeText, Content, readText}
+use Rattle.text.specs.Text.{numbers, lineOf, writeRows, writeOpened, writeText, Content, readText}
 use Rattle.text.specs.Calls.{Reading, Writing}
 use Rattle.text.proofs.Tables.{size, size-kinds, Due, Owned, owned-kinds, Taken, taken, taken-refusal}
 use Rattle.text.proofs.Grammar.{Says, stop, line, done, Describes}
@@ -41,8 +41,8 @@ row (gate own) (a ∷ []) rest w = absurd (omega arith)
 row (gate own) (a ∷ b ∷ ws) rest w = record { spelled = λ most d p. gateLine; rules = λ most. refl }
 
 written-says : (most : ℕ) (ks : List Kind) (ws : List ℕ) → Owned most ks → Passed (tableTests most ks ws) → size ks ≤ length ws
-    → Says newline [] ks (take (size ks) ws) (writeBody ks ws)
-unfolding writeBody size tableTests
+    → Says newline [] ks (take (size ks) ws) (writeRows lineOf ks ws)
+unfolding writeRows lineOf size tableTests
 written-says most [] ws o p h = stop
 written-says most (k ∷ ks) ws o p h =
     let q = passed-append (rowTests most k ws) (tableTests most ks (drop (width k) ws)) p in
@@ -98,14 +98,14 @@ given c table = record { counts = c; words = take (tableLength c) table }
 
 module _ (c : Counts) (table : List ℕ) (legal : 0 ≡ refusal (circuitTests c table)) where
   pub written-describes : Describes newline (writeText c table) (given c table)
-  unfolding writeText
+  unfolding writeOpened
   written-describes =
       let k : Taken c table = taken c table legal in
       record {
         short = omega (arith, text-bound c table legal);
         legal = taken-refusal (taken-words c table k);
         whole = length-take-le (tableLength c) table (k .long);
-        body = writeBody (kinds c) table;
+        body = writeRows lineOf (kinds c) table;
         text = refl;
         rest = [];
         says = rw (← size-kinds c) (written-says (top c) (kinds c) table (owned-kinds c) (k .rules) (omega (arith, size-kinds c)));
@@ -121,5 +121,5 @@ pub read-back : {c : Counts} {table buffer : List ℕ} {bytes : ℕ} {buffer′ 
 unfolding afterwards over
 read-back {c} {table} {buffer} w lent h =
     let text : List ℕ = writeText c table in
-    let e = round-trip c table (write-legal c table buffer (w .answers)) in
-    rw (w .returns, w .fills, take-append-seam text (drop (length text) buffer)) (reading-accepted text lent (read-fits text lent e h))
+    let e = round-trip c table (write-legal c table (writeText c table) buffer (w .answers)) in
+    rw (w .returns, w .fills, take-append-seam text (drop (length text) buffer)) (reading-accepted lent (read-fits lent e h))

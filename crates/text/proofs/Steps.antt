@@ -7,14 +7,15 @@ use native.Mathlib.Omega.{arith}
 use borrow.Author.Tests.{leb-true, le-leb, lt-leb}
 use lib.Dec.{leb}
 use lib.ListN.{length}
+use Rattle.circuit.specs.declared.Counts.{Counts}
 use Rattle.circuit.specs.Refusal.{Test, _or_, refusal}
 use Rattle.circuit.specs.RulesInCode.{Passed}
-use Rattle.circuit.specs.Table.{top, ceilingTests, Kind, input, latch, gate, literal, kinds, rowTests, literalTests, operandTests}
+use Rattle.circuit.specs.Table.{ceilingTests, Kind, input, latch, gate, literal, kinds, rowTests, literalTests, operandTests}
 use Rattle.circuit.proofs.Refusals.{Numbered, stops, past, none}
 use Rattle.text.specs.Part.{got, ill}
 use Rattle.text.specs.Line.{readLine}
 use Rattle.text.specs.Outcome.{Outcome, accepted, refused, tested, further, onward}
-use Rattle.text.specs.Text.{inFront, lineTests, ends, Lines, readLines, header, countsOf, headerTests, Content, readEnded, endingOf, readText}
+use Rattle.text.specs.Text.{magic, inFront, lineTests, ends, Lines, readLines, firstLine, countsOf, headerTests, Content, readOpened, endingOf, readText}
 use Rattle.text.proofs.Parts.{by-part}
 use Rattle.text.proofs.Outcomes.{tested-stops, tested-past, refused-accepted, tested-accepted, further-accepted, onward-accepted}
 
@@ -85,51 +86,55 @@ module _ (ending : List ℕ) {o : Outcome Lines} where
 abbrev pub content : List ℕ → Lines → Content
 content ns l = record { counts = countsOf ns; words = l .words }
 
-pub ended-long : (ending t : List ℕ) → 60000 < length t → readEnded ending t ≡ refused 1
-unfolding readEnded
-ended-long ending t h = tested-stops _ _ (stops _ [] (lt-leb (length t) 60000 h))
+-- what reads the lines of a circuit
+abbrev pub Read : Type 0
+Read = Counts → List Kind → List ℕ → Outcome Lines
+
+pub opened-long : (opening ending : List ℕ) (read : Read) (t : List ℕ) → 60000 < length t → readOpened opening ending read t ≡ refused 1
+unfolding readOpened
+opened-long opening ending read t h = tested-stops _ _ (stops _ [] (lt-leb (length t) 60000 h))
 
 pub text-long : (t : List ℕ) → 60000 < length t → readText t ≡ refused 1
 unfolding readText
-text-long t h = ended-long (endingOf t) t h
+text-long t h = opened-long magic (endingOf t) _ t h
 
-module _ (ending t : List ℕ) (short : length t ≤ 60000) where
+module _ (opening ending : List ℕ) (read : Read) (t : List ℕ) (short : length t ≤ 60000) where
   text-short : {o : Outcome Content} → tested (leb (length t) 60000 or 1 ∷ []) o ≡ o
   text-short = tested-past _ _ (past _ [] (le-leb (length t) 60000 short) none)
 
-  pub header-ill : header ending t ≡ ill → readEnded ending t ≡ refused 2
-  unfolding readEnded
+  pub header-ill : firstLine opening ending t ≡ ill → readOpened opening ending read t ≡ refused 2
+  unfolding readOpened
   header-ill e = text-short ∙ rw e
 
-  module _ {ns rest : List ℕ} (e : header ending t ≡ got ns rest) where
-    pub header-stops : {n : ℕ} → suc n ≡ refusal (headerTests ns) → readEnded ending t ≡ refused (suc n)
-    unfolding readEnded
+  module _ {ns rest : List ℕ} (e : firstLine opening ending t ≡ got ns rest) where
+    pub header-stops : {n : ℕ} → suc n ≡ refusal (headerTests ns) → readOpened opening ending read t ≡ refused (suc n)
+    unfolding readOpened
     header-stops h = text-short ∙ rw e (tested-stops (headerTests ns) _ h)
 
-    pub header-fits : 0 ≡ refusal (headerTests ns) → readEnded ending t ≡ onward (content ns) (thenEnds ending (readLines ending (lineTests (top (countsOf ns))) (kinds (countsOf ns)) rest))
-    unfolding readEnded
+    pub header-fits : 0 ≡ refusal (headerTests ns) → readOpened opening ending read t ≡ onward (content ns) (thenEnds ending (read (countsOf ns) (kinds (countsOf ns)) rest))
+    unfolding readOpened
     header-fits h = text-short ∙ rw e (tested-past (headerTests ns) _ h)
 
 -- A first line that is read, and the body
-pub record HeaderRead (ending t : List ℕ) (c : Content) : Type 0 where
+pub record HeaderRead (opening ending : List ℕ) (read : Read) (t : List ℕ) (c : Content) : Type 0 where
   pub short : length t ≤ 60000
   pub numbers : List ℕ
   pub behind : List ℕ
   pub lines : Lines
-  pub split : header ending t ≡ got numbers behind
+  pub split : firstLine opening ending t ≡ got numbers behind
   pub passes : Passed (headerTests numbers)
-  pub on : readLines ending (lineTests (top (countsOf numbers))) (kinds (countsOf numbers)) behind ≡ accepted lines
+  pub on : read (countsOf numbers) (kinds (countsOf numbers)) behind ≡ accepted lines
   pub closed : ends ending (lines .rest) ≡ true
   pub gives : content numbers lines ≡ c
 
-pub header-accepted : (ending t : List ℕ) {c : Content} → readEnded ending t ≡ accepted c → HeaderRead ending t c
-unfolding readEnded headerTests ceilingTests
-header-accepted ending t a =
+pub header-accepted : (opening ending : List ℕ) (read : Read) (t : List ℕ) {c : Content} → readOpened opening ending read t ≡ accepted c → HeaderRead opening ending read t c
+unfolding readOpened headerTests ceilingTests
+header-accepted opening ending read t a =
     let s = tested-accepted (leb (length t) 60000 or 1 ∷ []) _ (omega arith) a in
-    by-part (header ending t)
+    by-part (firstLine opening ending t)
     (λ ns rest e.
     let p = tested-accepted (headerTests ns) _ (omega arith) (rw e at (s .1)) in
-    let q = onward-accepted (content ns) (thenEnds ending (readLines ending (lineTests (top (countsOf ns))) (kinds (countsOf ns)) rest)) (p .1) in
+    let q = onward-accepted (content ns) (thenEnds ending (read (countsOf ns) (kinds (countsOf ns)) rest)) (p .1) in
     let z = end-accepted ending (q .1) in
     record { short = leb-true (length t) 60000 (s .0 .0); numbers = ns; behind = rest; lines = q .0; split = e; passes = p .0; on = z .0; closed = z .1; gives = q .2 })
     (λ e. absurd (refused-accepted (rw e at (s .1))))

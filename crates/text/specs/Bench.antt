@@ -11,7 +11,7 @@ use Rattle.circuit.specs.Table.{ceilingTests, several, kinds, rowTests, literal
 use Rattle.text.specs.Decimal.{isDigit, mayGrow, readOn, readNumber}
 use Rattle.text.specs.Line.{strip, prepend, splitLine}
 use Rattle.text.specs.Outcome.{Outcome, accepted, refused, tested, further, onward}
-use Rattle.text.specs.Text.{fits, owns, resetWord, words, lineTests, ends, readLines, header, countsOf, headerTests, Content, readEnded, endingOf, readText}
+use Rattle.text.specs.Text.{fits, owns, resetWord, words, lineTests, ends, readLines, firstLine, countsOf, headerTests, Content, readOpened, endingOf, readText}
 
 -- the document's way to show a text: `/` for byte 10
 unfoldable pub bytes : String → List ℕ
@@ -34,7 +34,7 @@ says t i l o a ws = record { text = t; outcome = accepted (record { counts = rec
 
 -- readText, all of it open to computation
 unfoldable pub outcomeOf : List ℕ → Outcome Content
-unfolding refusal ceilingTests several kinds rowTests literalTests operandTests isDigit mayGrow readOn readNumber strip prepend splitLine tested further onward fits owns resetWord words lineTests ends readLines header countsOf headerTests readEnded endingOf readText
+unfolding refusal ceilingTests several kinds rowTests literalTests operandTests isDigit mayGrow readOn readNumber strip prepend splitLine tested further onward fits owns resetWord words lineTests ends readLines firstLine countsOf headerTests readOpened endingOf readText
 outcomeOf t = readText t
 
 -- each text has its outcome

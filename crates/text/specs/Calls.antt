@@ -11,26 +11,42 @@ use Rattle.circuit.specs.Table.{tableLength, circuitTests}
 use Rattle.text.specs.Outcome.{Outcome, numberOf, further, leaves}
 use Rattle.text.specs.Text.{Content, readText, writeText}
 
--- reader: 1 to 9 as the text has it, then 10 where the lent table is too short for the words
-unfoldable pub readInto : List ℕ → List ℕ → Outcome Content
-readInto text table = further (λ c. leb (tableLength (c .counts)) (length table) or 10 ∷ []) (readText text)
+-- what a reader makes of a text, then 10 where the lent table is too short for the words
+unfoldable pub intoTable : List ℕ → Outcome Content → Outcome Content
+intoTable table o = further (λ c. leb (tableLength (c .counts)) (length table) or 10 ∷ []) o
+
+-- reader: 1 to 9 as the text has it, then 10
+abbrev pub readInto : List ℕ → List ℕ → Outcome Content
+readInto text table = intoTable table (readText text)
 
 -- a refusal returns zeros beside its number
 abbrev pub zeros : Counts
 zeros = record { inputs = 0; latches = 0; lamps = 0; gates = 0 }
 
--- The contract of the reader: its number, I, L, O and A, and the table at exit. A refusal changes no word; words beyond stay.
-pub record Reading (text table : List ℕ) (number : ℕ) (counts : Counts) (table′ : List ℕ) : Type 0 where
-  pub answers : number ≡ numberOf (readInto text table)
-  pub returns : counts ≡ leaves (λ c. c .counts) zeros (readInto text table)
-  pub fills : table′ ≡ leaves (λ c. over (c .words) table) table (readInto text table)
+-- What a reader leaves by an outcome: its number, I, L, O and A, and the table at exit. A refusal changes no word; words beyond stay.
+pub record ReadBy (o : Outcome Content) (table : List ℕ) (number : ℕ) (counts : Counts) (table′ : List ℕ) : Type 0 where
+  pub answers : number ≡ numberOf o
+  pub returns : counts ≡ leaves (λ c. c .counts) zeros o
+  pub fills : table′ ≡ leaves (λ c. over (c .words) table) table o
 
--- writer: 3, 10 for the table, 11, 10 for the text
-unfoldable pub writeTests : Counts → List ℕ → List ℕ → List Test
-writeTests c table buffer = circuitTests c table ++ (leb (length (writeText c table)) (length buffer) or 10 ∷ [])
+-- The contract of the reader
+abbrev pub Reading : (text table : List ℕ) (number : ℕ) (counts : Counts) (table′ : List ℕ) → Type 0
+Reading text table number counts table′ = ReadBy (readInto text table) table number counts table′
 
--- The contract of the writer: its number, the count of bytes written, and the buffer at exit. A refusal changes no byte; bytes beyond the text stay.
-pub record Writing (c : Counts) (table buffer : List ℕ) (number bytes : ℕ) (buffer′ : List ℕ) : Type 0 where
-  pub answers : number ≡ refusal (writeTests c table buffer)
-  pub returns : bytes ≡ leftBy number (length (writeText c table)) 0
-  pub fills : buffer′ ≡ leftBy number (over (writeText c table) buffer) buffer
+-- writer: 3, 10 for the table, 11, 10 for the bytes that are written
+unfoldable pub puttingTests : Counts → List ℕ → List ℕ → List ℕ → List Test
+puttingTests c table written buffer = circuitTests c table ++ (leb (length written) (length buffer) or 10 ∷ [])
+
+-- the same for the text
+abbrev pub writeTests : Counts → List ℕ → List ℕ → List Test
+writeTests c table buffer = puttingTests c table (writeText c table) buffer
+
+-- What a writer of these bytes leaves: its number, the count of bytes written, and the buffer at exit. A refusal changes no byte; bytes beyond stay.
+pub record WrittenBy (c : Counts) (table written buffer : List ℕ) (number bytes : ℕ) (buffer′ : List ℕ) : Type 0 where
+  pub answers : number ≡ refusal (puttingTests c table written buffer)
+  pub returns : bytes ≡ leftBy number (length written) 0
+  pub fills : buffer′ ≡ leftBy number (over written buffer) buffer
+
+-- The contract of the writer
+abbrev pub Writing : (c : Counts) (table buffer : List ℕ) (number bytes : ℕ) (buffer′ : List ℕ) → Type 0
+Writing c table buffer number bytes buffer′ = WrittenBy c table (writeText c table) buffer number bytes buffer′

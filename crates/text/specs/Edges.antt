@@ -4,7 +4,7 @@ use mathlib.Core.List.{List, [], _∷_, _++_, map}
 use Prim.Native.String.{String}
 use lib.ListN.{replicate}
 use Rattle.text.specs.Outcome.{accepted, refused}
-use Rattle.text.specs.Calls.{readInto, zeros}
+use Rattle.text.specs.Calls.{intoTable, readInto, zeros}
 use Rattle.text.specs.Bench.{bytes, Case, _is_, says, outcomeOf, AsSaid}
 
 pub edges : List Case
@@ -82,5 +82,5 @@ longest-text = (refl, refl)
 
 -- a lent table without a word is too short for a lamp, and 9 comes before 10
 pub short-table : map (λ (t : String). readInto (bytes t) []) ("aag 0 0 0 1 0/0/" ∷ "aag 0 0 0 1 0/0/x" ∷ []) ≡ refused 10 ∷ refused 9 ∷ []
-unfolding outcomeOf bytes readInto
+unfolding outcomeOf bytes intoTable
 short-table = refl

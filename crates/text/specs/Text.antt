@@ -33,14 +33,22 @@ numbers (latch own) ws = own ∷ getD ws 0 0 ∷ shown own (getD ws 1 0)
 numbers literal ws = getD ws 0 0 ∷ []
 numbers (gate own) ws = own ∷ getD ws 0 0 ∷ getD ws 1 0 ∷ []
 
--- a line for each kind, in order
-unfoldable pub writeBody : List Kind → List ℕ → List ℕ
-writeBody [] ws = []
-writeBody (k ∷ ks) ws = lineText (numbers k ws) ++ writeBody ks (drop (width k) ws)
+-- the line of a kind whose words open ws
+unfoldable pub lineOf : Kind → List ℕ → List ℕ
+lineOf k ws = lineText (numbers k ws)
 
--- the first line, then the body; the table's words beyond its length are ignored
-unfoldable pub writeText : Counts → List ℕ → List ℕ
-writeText c table = magic ++ (lineText (headNumbers c) ++ writeBody (kinds c) table)
+-- what is written for each kind, in order
+unfoldable pub writeRows : (Kind → List ℕ → List ℕ) → List Kind → List ℕ → List ℕ
+writeRows each [] ws = []
+writeRows each (k ∷ ks) ws = each k ws ++ writeRows each ks (drop (width k) ws)
+
+-- a first line that opens with these bytes, then the rest; the table's words beyond its length are ignored
+unfoldable pub writeOpened : List ℕ → (Kind → List ℕ → List ℕ) → Counts → List ℕ → List ℕ
+writeOpened opening each c table = opening ++ (lineText (headNumbers c) ++ writeRows each (kinds c) table)
+
+-- the text: a line for each kind
+abbrev pub writeText : Counts → List ℕ → List ℕ
+writeText c table = writeOpened magic lineOf c table
 
 -- ---- reading
 
@@ -95,9 +103,13 @@ readLines ending tests (k ∷ ks) t = elim (readLine ending t) [
   | got ns rest ↦ tested (tests k ns) (onward (inFront k ns) (readLines ending tests ks rest))
 ]
 
--- the numbers of the first line
-unfoldable pub header : List ℕ → List ℕ → Part (List ℕ)
-header ending t = elim (strip magic t) [ got u r ↦ splitLine ending 5 r | ill ↦ ill ]
+-- the numbers of a first line that opens with these bytes
+unfoldable pub firstLine : List ℕ → List ℕ → List ℕ → Part (List ℕ)
+firstLine opening ending t = elim (strip opening t) [ got u r ↦ splitLine ending 5 r | ill ↦ ill ]
+
+-- those of the first line
+abbrev pub header : List ℕ → List ℕ → Part (List ℕ)
+header ending t = firstLine magic ending t
 
 -- I, L, O and A among them
 unfoldable pub countsOf : List ℕ → Counts
@@ -112,14 +124,22 @@ pub record Content : Type 0 where
   pub counts : Counts
   pub words : List ℕ
 
--- 1, 2, 3, then line by line, 9, in a text whose lines have this ending
-unfoldable pub readEnded : List ℕ → List ℕ → Outcome Content
-readEnded ending t = tested (leb (length t) 60000 or 1 ∷ []) (elim (header ending t) [
+-- 1, 2, 3, then what is read behind a first line that opens with these bytes, 9
+unfoldable pub readOpened : List ℕ → List ℕ → (Counts → List Kind → List ℕ → Outcome Lines) → List ℕ → Outcome Content
+readOpened opening ending read t = tested (leb (length t) 60000 or 1 ∷ []) (elim (firstLine opening ending t) [
   | ill ↦ refused 2
   | got ns rest ↦
       tested (headerTests ns) (onward (λ l. record { counts = countsOf ns; words = l .words })
-      (further (λ l. ends ending (l .rest) or 9 ∷ []) (readLines ending (lineTests (top (countsOf ns))) (kinds (countsOf ns)) rest)))
+      (further (λ l. ends ending (l .rest) or 9 ∷ []) (read (countsOf ns) (kinds (countsOf ns)) rest)))
 ])
+
+-- the lines of a circuit, each judged by 4, 5, 6, then 7 or 8
+abbrev pub circuitLines : List ℕ → Counts → List Kind → List ℕ → Outcome Lines
+circuitLines ending c ks t = readLines ending (lineTests (top c)) ks t
+
+-- 1, 2, 3, then line by line, 9, in a text whose lines have this ending
+abbrev pub readEnded : List ℕ → List ℕ → Outcome Content
+readEnded ending t = readOpened magic ending (circuitLines ending) t
 
 -- "the first line decides": byte 10 where it is a line with that ending, else bytes 13 and 10
 unfoldable pub endingOf : List ℕ → List ℕ

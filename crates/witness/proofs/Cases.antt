@@ -74,7 +74,7 @@ refused-meant : (text : List ℕ) (m : ℕ) (o : Outcome Content) → readText t
 unfolding refusedWith
 refused-meant text m (accepted c) e h = absurd (false≢true h)
 refused-meant text m (refused k) e h = λ table number counts table′ reading.
-    let is = reading-determined reading (reading-refused text table (read-stops text table e)) in
+    let is = reading-determined reading (reading-refused table (read-stops table e)) in
     (is .0 ∙ eqb-true k m h, is .1, is .2)
 
 ran-meant : (text : List ℕ) (w size : ℕ) (says : List Claim) (o : Outcome Content) → readText text ≡ o → ranAs w size says o ≡ true → RanAs text w size says
@@ -83,7 +83,7 @@ ran-meant text w size says (refused k) e h = absurd (false≢true h)
 ran-meant text w size says (accepted c) e h = λ table room number g reading same-w sized r cubes′ verdict′ settled′ runs.
     let parts = and-parts (leb (tableLength (c .counts)) 16) _ h in
     let fits = leb-true (tableLength (c .counts)) 16 (parts .0) in
-    let is = reading-determined reading (reading-accepted text table (read-fits text table e (omega arith))) in
+    let is = reading-determined reading (reading-accepted table (read-fits table e (omega arith))) in
     let same-run = ap₂ (λ (k : Counts) (t : List ℕ). answerIn (zeroed k t (g .w) size)) (is .1) (is .2) in
     let answers = rw (answer-zeroed size g sized ∙ same-run ∙ answer-read text e table fits room (g .w) size) at (runs-answers runs) in
     (is .0, claims-say answers says (rw same-w (parts .1)))

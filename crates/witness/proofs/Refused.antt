@@ -5,7 +5,8 @@ use Prim.Native.Nat.{ℕ}
 use Rattle.circuit.specs.declared.Counts.{Counts}
 use Rattle.circuit.proofs.Refusals.{refused-old}
 use Rattle.tick.specs.Tick.{TickGiven, Ticked}
-use Rattle.text.specs.Calls.{Reading, Writing, readInto, zeros}
+use Rattle.text.specs.Calls.{ReadBy, WrittenBy, zeros}
+use Rattle.text.specs.Text.{Content}
 use Rattle.text.specs.Outcome.{Outcome, accepted, refused, numberOf, leaves}
 use Rattle.cubes.specs.declared.ChainAnswer.{ChainAnswer}
 use Rattle.cubes.specs.declared.JudgeAnswer.{JudgeAnswer}
@@ -19,17 +20,17 @@ unfolding numberOf leaves
 outcome-refused f b (accepted a) h = absurd (h mathlib.Core.Path.refl)
 outcome-refused f b (refused n) h = mathlib.Core.Path.refl
 
-pub read-leaves : {text table : List ℕ} {number : ℕ} {counts : Counts} {table′ : List ℕ} → Reading text table number counts table′
+pub read-leaves : {o : Outcome Content} {table : List ℕ} {number : ℕ} {counts : Counts} {table′ : List ℕ} → ReadBy o table number counts table′
     → (number ≡ 0 → ⊥) → (counts ≡ zeros) × (table′ ≡ table)
-read-leaves {text} {table} r h =
-    let no : (numberOf (readInto text table) ≡ 0 → ⊥) = λ z. h (r .answers ∙ z) in
-    (r .returns ∙ outcome-refused _ _ (readInto text table) no, r .fills ∙ outcome-refused _ _ (readInto text table) no)
+read-leaves {o} r h =
+    let no : (numberOf o ≡ 0 → ⊥) = λ z. h (r .answers ∙ z) in
+    (r .returns ∙ outcome-refused _ _ o no, r .fills ∙ outcome-refused _ _ o no)
 
 -- ---- the writer
 
-pub write-leaves : {c : Counts} {table buffer : List ℕ} {number bytes : ℕ} {buffer′ : List ℕ} → Writing c table buffer number bytes buffer′
+pub write-leaves : {c : Counts} {table written buffer : List ℕ} {number bytes : ℕ} {buffer′ : List ℕ} → WrittenBy c table written buffer number bytes buffer′
     → (number ≡ 0 → ⊥) → (bytes ≡ 0) × (buffer′ ≡ buffer)
-write-leaves {c} {table} {buffer} {number} w h = (w .returns ∙ sym (refused-old number _ _ h), w .fills ∙ sym (refused-old number _ _ h))
+write-leaves {number = number} w h = (w .returns ∙ sym (refused-old number _ _ h), w .fills ∙ sym (refused-old number _ _ h))
 
 -- ---- the tick
 

@@ -12,7 +12,7 @@ use Rattle.circuit.specs.Refusal.{refusal}
 use Rattle.circuit.specs.Table.{circuitTests, tableLength, literalsAt, gatesAt}
 use Rattle.circuit.specs.RulesInCode.{Legal}
 use Rattle.text.specs.Text.{writeText}
-use Rattle.text.specs.Calls.{Writing}
+use Rattle.text.specs.Calls.{WrittenBy}
 use Rattle.putting.specs.PutInCode.{Put}
 use Rattle.writer.specs.WriterInCode.{SmallWords, Writable}
 use Rattle.circuit.proofs.Legality.{legal}
@@ -22,9 +22,9 @@ use Rattle.text.proofs.Answers.{write-stops, write-short, write-fits, writing-r
 use Rattle.putting.proofs.Putting.{put-over}
 
 -- 3, 10 for the table, 11
-pub written-stops : (c : Counts) (table buffer : List ℕ) (n : ℕ) → n ≡ refusal (circuitTests c table) → (n ≡ 0 → ⊥) → Writing c table buffer n 0 buffer
-written-stops c table buffer zero e f = absurd (f refl)
-written-stops c table buffer (suc k) e f = writing-refused c table buffer (write-stops c table buffer (sym e))
+pub written-stops : (c : Counts) (table written buffer : List ℕ) (n : ℕ) → n ≡ refusal (circuitTests c table) → (n ≡ 0 → ⊥) → WrittenBy c table written buffer n 0 buffer
+written-stops c table written buffer zero e f = absurd (f refl)
+written-stops c table written buffer (suc k) e f = writing-refused c table written buffer (write-stops c table written buffer (sym e))
 
 -- ---- a legal table's words have at most four digits
 
@@ -49,18 +49,24 @@ legal-small {c} {table} l k h = by-test (ltb k (literalsAt c))
 
 -- ---- the call
 
-module _ (c : Counts) (table : List ℕ) {n : ℕ} (e : n ≡ refusal (circuitTests c table)) (z : n ≡ 0) where
+module _ (c : Counts) (table written : List ℕ) {n : ℕ} (e : n ≡ refusal (circuitTests c table)) (z : n ≡ 0) where
   nothing : 0 ≡ refusal (circuitTests c table)
   nothing = sym z ∙ e
 
+  pub written-legal : Legal c table
+  written-legal = legal c table nothing
+
   -- what the passes may assume
-  pub written-ready : Writable c table 60000
-  written-ready = let l : Legal c table = legal c table nothing in record { bounded = l .bounded; long = l .long; small = legal-small l; fits = omega (arith, text-bound c table nothing) }
+  pub written-ready : (0 ≡ refusal (circuitTests c table) → length written ≤ 60000) → Writable c table written 60000
+  written-ready bound = record { bounded = written-legal .bounded; long = written-legal .long; small = legal-small written-legal; fits = bound nothing }
 
-  -- 10 for the text
-  pub written-short : (buffer : List ℕ) → length buffer < length (writeText c table) → Writing c table buffer 10 0 buffer
-  written-short buffer h = writing-refused c table buffer (write-short c table buffer nothing h)
+  -- 10 for the bytes
+  pub written-short : (buffer : List ℕ) → length buffer < length written → WrittenBy c table written buffer 10 0 buffer
+  written-short buffer h = writing-refused c table written buffer (write-short c table written buffer nothing h)
 
-  pub written-accepted : {buffer buffer′ : List ℕ} {bytes : ℕ} → length (writeText c table) ≤ length buffer
-      → Put buffer 0 (writeText c table) buffer′ bytes → Writing c table buffer 0 bytes buffer′
-  written-accepted {buffer} h p = rw (p .after, zero-add, put-over p h) (writing-accepted c table buffer (write-fits c table buffer nothing h))
+  pub written-accepted : {buffer buffer′ : List ℕ} {bytes : ℕ} → length written ≤ length buffer → Put buffer 0 written buffer′ bytes → WrittenBy c table written buffer 0 bytes buffer′
+  written-accepted {buffer} h p = rw (p .after, zero-add, put-over p h) (writing-accepted c table written buffer (write-fits c table written buffer nothing h))
+
+-- a written text has as many bytes as the passes may count
+pub text-within : (c : Counts) (table : List ℕ) → 0 ≡ refusal (circuitTests c table) → length (writeText c table) ≤ 60000
+text-within c table h = omega (arith, text-bound c table h)

@@ -1,19 +1,22 @@
 -- Laws of one written line: its text and its length by how many numbers it has, its numbers by its kind, and the first line. Assumes nothing.
-use mathlib.Core.Path.{_≡_, refl, ap, _∙_}
+use mathlib.Core.Path.{_≡_, refl, sym, ap, _∙_}
 use mathlib.Core.List.{List, [], _∷_, _++_, append-assoc}
 use Prim.Native.Nat.{ℕ, zero, suc, _+_, _≤_, _<_}
 use native.Mathlib.Nat.{add-zero}
 use native.Mathlib.Omega.{arith}
-use lib.ListN.{length, length-append, getD, drop}
-use lib.Seq.{getD-drop}
+use lib.ListN.{length, length-append, getD, drop, set, length-set}
+use lib.Seq.{getD-drop, sets}
+use Rattle.three.specs.Lists.{tabulate}
 use Rattle.circuit.specs.declared.Counts.{Counts}
 use Rattle.circuit.specs.Table.{variables, width}
 use Rattle.writer.specs.declared.LineNumbers.{LineNumbers}
 use Rattle.text.specs.Decimal.{decimal}
 use Rattle.text.specs.Line.{newline, space, lineText, endedLine}
-use Rattle.text.specs.Text.{magic, headNumbers, shown, numbers}
+use Rattle.text.specs.Text.{headNumbers, shown, numbers, lineOf}
 use Rattle.text.specs.KindsInCode.{coded}
 use Rattle.text.proofs.Coding.{width-two, coded-gate}
+use Rattle.text.proofs.Spelling.{listed}
+use Rattle.putting.specs.PutInCode.{Put}
 use Rattle.writer.specs.WriterInCode.{andMore, lineNumbers, countNumbers, LatchLine, Shows}
 
 -- ---- by how many numbers it has
@@ -85,28 +88,28 @@ unfolding andMore
 latch-given o n t e = record { same = rw e; wide = refl; small = omega arith }
 
 module _ (own : ℕ) (words : List ℕ) (at : ℕ) where
-  word-first : getD (drop at words) 0 0 ≡ getD words at 0
+  pub word-first : getD (drop at words) 0 0 ≡ getD words at 0
   word-first = getD-drop at words 0 0 ∙ ap (λ (k : ℕ). getD words k 0) (add-zero at)
 
-  word-second : getD (drop at words) 1 0 ≡ getD words (at + 1) 0
+  pub word-second : getD (drop at words) 1 0 ≡ getD words (at + 1) 0
   word-second = getD-drop at words 1 0
 
-  pub shows-input : {k : ℕ} → k ≡ 0 → own < 10000 → Shows k own words at (record { more = 0; first = own; second = 0; third = 0; words = 0 })
-  unfolding andMore numbers coded width
-  shows-input e h = rw e (record { same = refl; wide = refl; small = omega arith })
+  pub shows-input : {k : ℕ} → k ≡ 0 → own < 10000 → Shows lineOf k own words at (record { more = 0; first = own; second = 0; third = 0; words = 0 })
+  unfolding andMore lineOf numbers coded width
+  shows-input e h = rw e (record { row = record { same = refl; width = refl }; small = omega arith })
 
-  pub shows-lamp : {k : ℕ} → k ≡ 2 → getD words at 0 < 10000 → Shows k own words at (record { more = 0; first = getD words at 0; second = 0; third = 0; words = 1 })
-  unfolding andMore numbers coded width
-  shows-lamp e h = rw e (record { same = rw word-first; wide = refl; small = omega arith })
+  pub shows-lamp : {k : ℕ} → k ≡ 2 → getD words at 0 < 10000 → Shows lineOf k own words at (record { more = 0; first = getD words at 0; second = 0; third = 0; words = 1 })
+  unfolding andMore lineOf numbers coded width
+  shows-lamp e h = rw e (record { row = record { same = rw word-first; width = refl }; small = omega arith })
 
-  pub shows-latch : {k : ℕ} {line : LineNumbers} → k ≡ 1 → LatchLine own (getD words at 0) (getD words (at + 1) 0) line → Shows k own words at line
-  unfolding numbers coded width
-  shows-latch e l = rw e (record { same = l .same ∙ rw (word-first, word-second); wide = l .wide; small = l .small })
+  pub shows-latch : {k : ℕ} {line : LineNumbers} → k ≡ 1 → LatchLine own (getD words at 0) (getD words (at + 1) 0) line → Shows lineOf k own words at line
+  unfolding lineOf numbers coded width
+  shows-latch e l = rw e (record { row = record { same = ap lineText (l .same ∙ rw (word-first, word-second)); width = l .wide }; small = l .small })
 
   pub shows-gate : (k : ℕ) → own < 10000 → getD words at 0 < 10000 → getD words (at + 1) 0 < 10000 → (k ≡ 0 → ⊥) → (k ≡ 1 → ⊥) → (k ≡ 2 → ⊥)
-      → Shows k own words at (record { more = 2; first = own; second = getD words at 0; third = getD words (at + 1) 0; words = 2 })
-  unfolding andMore numbers
-  shows-gate k fits left right f g h = record { same = rw (coded-gate k own f g h, word-first, word-second); wide = width-two k own f h; small = omega arith }
+      → Shows lineOf k own words at (record { more = 2; first = own; second = getD words at 0; third = getD words (at + 1) 0; words = 2 })
+  unfolding andMore lineOf numbers
+  shows-gate k fits left right f g h = record { row = record { same = rw (coded-gate k own f g h, word-first, word-second); width = width-two k own f h }; small = omega arith }
 
 -- ---- the first line
 
@@ -119,10 +122,15 @@ module _ (c : Counts) where
   unfolding endedLine countNumbers
   counts-length = simp length-append (omega arith)
 
-  pub head-text : magic ++ lineText (headNumbers c) ≡ (magic ++ word (variables c) 32) ++ lineText (countNumbers c)
+  pub head-text : (opening : List ℕ) → opening ++ lineText (headNumbers c) ≡ (opening ++ word (variables c) 32) ++ lineText (countNumbers c)
   unfolding endedLine headNumbers countNumbers
-  head-text = simp append-assoc
+  head-text opening = simp append-assoc
 
-  pub head-length : length (magic ++ lineText (headNumbers c)) ≡ 5 + length (decimal (variables c)) + length (lineText (countNumbers c))
+  pub head-length : length (lineText (headNumbers c)) ≡ 1 + length (decimal (variables c)) + length (lineText (countNumbers c))
   unfolding endedLine headNumbers countNumbers
   head-length = simp length-append (omega arith)
+
+-- the four bytes in front of it
+pub four-put : (d m : List ℕ) → length m ≡ 4 → Put d 0 m (set (set (set (set d 0 (getD m 0 0)) 1 (getD m 1 0)) 2 (getD m 2 0)) 3 (getD m 3 0)) 4
+unfolding tabulate
+four-put d m h = record { same = ap (λ (l : List ℕ). sets d 0 l) (sym (listed 4 m h)); after = omega arith; long = simp length-set }

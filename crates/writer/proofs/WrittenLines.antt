@@ -1,4 +1,4 @@
--- Laws of lines of one kind, as a loop goes through them: what is left is the whole without the lines passed. Assumes nothing.
+-- Laws of what is written for one kind, as a loop goes through it: what is left is the whole without the rows passed. Assumes nothing.
 use mathlib.Core.Path.{_≡_, refl, sym, ap, _∙_}
 use mathlib.Core.List.{List, [], _++_}
 use Prim.Native.Nat.{ℕ, suc, _+_, _*_, _-_, _≤_, _<_}
@@ -6,37 +6,35 @@ use native.Mathlib.Nat.{sub-zero, suc-mul}
 use native.Mathlib.Omega.{arith}
 use lib.ListN.{length, length-append, drop}
 use lib.Seq.{sets, drop-drop}
-use Rattle.circuit.specs.Table.{several, width}
-use Rattle.writer.specs.declared.LineNumbers.{LineNumbers}
-use Rattle.text.specs.Line.{lineText}
-use Rattle.text.specs.Text.{numbers, writeBody}
+use Rattle.circuit.specs.Table.{Kind, several, width}
+use Rattle.text.specs.Text.{writeRows}
 use Rattle.text.specs.KindsInCode.{coded}
 use Rattle.putting.specs.PutInCode.{Put}
-use Rattle.writer.specs.WriterInCode.{lineNumbers, SmallWords, Shows, block, Lines}
+use Rattle.writer.specs.WriterInCode.{SmallWords, RowAt, block, Lines}
 use Rattle.text.proofs.Stores.{sets-append}
 use Rattle.text.proofs.Coding.{width-alike}
 
-module _ (kind : ℕ) (words : List ℕ) where
-  block-none : (own at : ℕ) → block kind own 0 words at ≡ []
-  unfolding block several writeBody
+module _ (each : Kind → List ℕ → List ℕ) (kind : ℕ) (words : List ℕ) where
+  block-none : (own at : ℕ) → block each kind own 0 words at ≡ []
+  unfolding block several writeRows
   block-none own at = refl
 
-  block-more : (own n at : ℕ) → block kind own (suc n) words at ≡ lineText (numbers (coded kind own) (drop at words)) ++ block kind (own + 2) n words (at + width (coded kind own))
-  unfolding block several writeBody
+  block-more : (own n at : ℕ) → block each kind own (suc n) words at ≡ each (coded kind own) (drop at words) ++ block each kind (own + 2) n words (at + width (coded kind own))
+  unfolding block several writeRows
   block-more own n at = rw drop-drop
 
-  -- the line that a loop is at, and those behind it
-  block-next : {own at : ℕ} {l : LineNumbers} (count i : ℕ) → i < count → Shows kind own words at l
-      → block kind own (count - i) words at ≡ lineText (lineNumbers l) ++ block kind (own + 2) (count - (i + 1)) words (at + l .words)
+  -- the row that a loop is at, and those behind it
+  block-next : {own at : ℕ} {us : List ℕ} {w : ℕ} (count i : ℕ) → i < count → RowAt each kind own words at us w
+      → block each kind own (count - i) words at ≡ us ++ block each kind (own + 2) (count - (i + 1)) words (at + w)
   block-next {own} {at} count i h s =
       let p : count - i ≡ suc (count - (i + 1)) = omega arith in
-      rw (p, s .same, s .wide) (block-more own (count - (i + 1)) at)
+      rw (p, s .same, s .width) (block-more own (count - (i + 1)) at)
 
--- `end` is the position behind the first i lines, and the next of them has the literal `due` and its words at `word`
-module _ (kind own count : ℕ) (words : List ℕ) (at start : ℕ) where
+-- `end` is the position behind the first i rows, and the next of them has the literal `due` and its words at `word`
+module _ (each : Kind → List ℕ → List ℕ) (kind own count : ℕ) (words : List ℕ) (at start : ℕ) where
   pub record LinesLeft (end due word i : ℕ) : Type 0 where
     pub within : i ≤ count
-    pub after : end + length (block kind due (count - i) words word) ≡ start + length (block kind own count words at)
+    pub after : end + length (block each kind due (count - i) words word) ≡ start + length (block each kind own count words at)
     pub literals : due + 2 * (count - i) ≤ 10000
     pub there : word + (count - i) * width (coded kind 0) ≤ length words
     pub small : SmallWords words (word + (count - i) * width (coded kind 0))
@@ -56,43 +54,43 @@ module _ (kind own count : ℕ) (words : List ℕ) (at start : ℕ) where
     pub words-small : SmallWords words (word + width (coded kind due))
     words-small k p = s .small k (omega (arith, falls))
 
-    module _ {l : LineNumbers} (shows : Shows kind due words word l) where
-      pub line-room : end + length (lineText (lineNumbers l)) ≤ start + length (block kind own count words at)
-      line-room = omega (arith, s .after, simp length-append at (ap length (block-next kind words count i h shows)))
+    module _ {us : List ℕ} {w : ℕ} (row : RowAt each kind due words word us w) where
+      pub line-room : end + length us ≤ start + length (block each kind own count words at)
+      line-room = omega (arith, s .after, simp length-append at (ap length (block-next each kind words count i h row)))
 
-      pub lines-next : {to : ℕ} → to ≡ end + length (lineText (lineNumbers l)) → LinesLeft to (due + 2) (word + l .words) (i + 1)
+      pub lines-next : {to : ℕ} → to ≡ end + length us → LinesLeft to (due + 2) (word + w) (i + 1)
       lines-next e = record {
         within = omega arith;
-        after = omega (arith, s .after, simp length-append at (ap length (block-next kind words count i h shows)));
+        after = omega (arith, s .after, simp length-append at (ap length (block-next each kind words count i h row)));
         literals = omega (arith, s .literals);
-        there = omega (arith, s .there, shows .wide, falls);
-        small = λ k p. s .small k (omega (arith, shows .wide, falls));
+        there = omega (arith, s .there, row .width, falls);
+        small = λ k p. s .small k (omega (arith, row .width, falls));
       }
 
-  pub lines-last : {end due word i : ℕ} → LinesLeft end due word i → count ≤ i → end ≡ start + length (block kind own count words at)
+  pub lines-last : {end due word i : ℕ} → LinesLeft end due word i → count ≤ i → end ≡ start + length (block each kind own count words at)
   lines-last {end} {due} {word} {i} s h =
       let p : count - i ≡ 0 = omega arith in
-      omega (arith, rw (p, block-none kind words due word) at (s .after))
+      omega (arith, rw (p, block-none each kind words due word) at (s .after))
 
   -- the same for a buffer: what is left to put makes it the whole
   pub record PutLeft (text₀ text : List ℕ) (end due word i : ℕ) : Type 0 where
     pub lines : LinesLeft end due word i
     pub long : length text ≡ length text₀
-    pub same : sets text end (block kind due (count - i) words word) ≡ sets text₀ start (block kind own count words at)
+    pub same : sets text end (block each kind due (count - i) words word) ≡ sets text₀ start (block each kind own count words at)
 
   pub left-first : (text : List ℕ) → Lines kind own count words at → PutLeft text text start own at 0
   left-first text r = record { lines = lines-first r; long = refl; same = rw sub-zero }
 
   pub left-next : {text₀ text : List ℕ} {end due word i : ℕ} → PutLeft text₀ text end due word i → i < count
-      → {l : LineNumbers} → Shows kind due words word l → {text′ : List ℕ} {to : ℕ} → Put text end (lineText (lineNumbers l)) text′ to
-      → PutLeft text₀ text′ to (due + 2) (word + l .words) (i + 1)
-  left-next {text₀} {text} {end} {due} {word} {i} s h {l} shows p = record {
-    lines = lines-next (s .lines) h shows (p .after);
+      → {us : List ℕ} {w : ℕ} → RowAt each kind due words word us w → {text′ : List ℕ} {to : ℕ} → Put text end us text′ to
+      → PutLeft text₀ text′ to (due + 2) (word + w) (i + 1)
+  left-next {text₀} {text} {end} {due} {word} {i} s h {us} row p = record {
+    lines = lines-next (s .lines) h row (p .after);
     long = p .long ∙ s .long;
-    same = rw (p .same, p .after) (sym (sets-append text end (lineText (lineNumbers l)) _) ∙ ap (λ (t : List ℕ). sets text end t) (sym (block-next kind words count i h shows)) ∙ s .same);
+    same = rw (p .same, p .after) (sym (sets-append text end us _) ∙ ap (λ (t : List ℕ). sets text end t) (sym (block-next each kind words count i h row)) ∙ s .same);
   }
 
-  pub left-last : {text₀ text : List ℕ} {end due word i : ℕ} → PutLeft text₀ text end due word i → count ≤ i → Put text₀ start (block kind own count words at) text end
+  pub left-last : {text₀ text : List ℕ} {end due word i : ℕ} → PutLeft text₀ text end due word i → count ≤ i → Put text₀ start (block each kind own count words at) text end
   left-last {text₀} {text} {end} {due} {word} {i} s h =
       let p : count - i ≡ 0 = omega arith in
-      record { same = rw (p, block-none kind words due word) at (s .same); after = lines-last (s .lines) h; long = s .long }
+      record { same = rw (p, block-none each kind words due word) at (s .same); after = lines-last (s .lines) h; long = s .long }

@@ -4,11 +4,12 @@ use mathlib.Core.List.{List, [], _∷_}
 use Prim.Native.Nat.{ℕ, zero, suc, _+_, _*_, _≤_, _<_}
 use lib.ListN.{length, getD, drop}
 use Rattle.circuit.specs.declared.Counts.{Counts}
-use Rattle.circuit.specs.Table.{tableLength, several, width}
+use Rattle.circuit.specs.Table.{tableLength, Kind, several, width}
 use Rattle.circuit.specs.RulesInCode.{Bounded}
 use Rattle.writer.specs.declared.LineNumbers.{LineNumbers}
 use Rattle.text.specs.KindsInCode.{coded}
-use Rattle.text.specs.Text.{shown, numbers, writeBody, writeText}
+use Rattle.text.specs.Line.{lineText}
+use Rattle.text.specs.Text.{shown, writeRows}
 
 -- the first number, and so many more
 unfoldable pub andMore : ℕ → ℕ → ℕ → ℕ → List ℕ
@@ -40,15 +41,19 @@ pub record LatchLine (own next reset : ℕ) (line : LineNumbers) : Type 0 where
   pub wide : line .words ≡ 2
   pub small : Small line
 
--- the line of a kind whose words stand at word `at`
-pub record Shows (kind own : ℕ) (words : List ℕ) (at : ℕ) (line : LineNumbers) : Type 0 where
-  pub same : lineNumbers line ≡ numbers (coded kind own) (drop at words)
-  pub wide : line .words ≡ width (coded kind own)
+-- what is written for a kind whose words stand at word `at`, and how many words those are
+pub record RowAt (each : Kind → List ℕ → List ℕ) (kind own : ℕ) (words : List ℕ) (at : ℕ) (row : List ℕ) (wide : ℕ) : Type 0 where
+  pub same : row ≡ each (coded kind own) (drop at words)
+  pub width : wide ≡ width (coded kind own)
+
+-- the line of such a kind
+pub record Shows (each : Kind → List ℕ → List ℕ) (kind own : ℕ) (words : List ℕ) (at : ℕ) (line : LineNumbers) : Type 0 where
+  pub row : RowAt each kind own words at (lineText (lineNumbers line)) (line .words)
   pub small : Small line
 
--- `count` lines of a kind, the first with the literal own and its words at word `at`
-unfoldable pub block : ℕ → ℕ → ℕ → List ℕ → ℕ → List ℕ
-block kind own count words at = writeBody (several (coded kind) own count []) (drop at words)
+-- what is written for `count` of a kind, the first with the literal own and its words at word `at`
+unfoldable pub block : (Kind → List ℕ → List ℕ) → ℕ → ℕ → ℕ → List ℕ → ℕ → List ℕ
+block each kind own count words at = writeRows each (several (coded kind) own count []) (drop at words)
 
 -- those lines have their words, and their numbers have at most four digits
 pub record Lines (kind own count : ℕ) (words : List ℕ) (at : ℕ) : Type 0 where
@@ -56,9 +61,9 @@ pub record Lines (kind own count : ℕ) (words : List ℕ) (at : ℕ) : Type 0 w
   pub there : at + count * width (coded kind 0) ≤ length words
   pub small : SmallWords words (at + count * width (coded kind 0))
 
--- a circuit whose text is to be written into so many bytes
-pub record Writable (c : Counts) (words : List ℕ) (room : ℕ) : Type 0 where
+-- a circuit for which these bytes are to be written into so many
+pub record Writable (c : Counts) (words written : List ℕ) (room : ℕ) : Type 0 where
   pub bounded : Bounded c
   pub long : tableLength c ≤ length words
   pub small : SmallWords words (tableLength c)
-  pub fits : length (writeText c words) ≤ room
+  pub fits : length written ≤ room

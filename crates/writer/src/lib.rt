@@ -13,34 +13,34 @@ ghost use Rattle.circuit.specs.RulesInCode.{Bounded};
 ghost use Rattle.circuit.specs.Table.{width};
 ghost use Rattle.text.specs.Decimal.{decimal};
 ghost use Rattle.text.specs.Line.{lineText};
-ghost use Rattle.text.specs.Text.{magic, headNumbers, shown, writeText};
+ghost use Rattle.text.specs.Text.{magic as plainMagic, headNumbers, shown, lineOf, writeText};
 ghost use Rattle.text.specs.Calls.{Writing};
 ghost use Rattle.text.specs.KindsInCode.{coded};
 ghost use Rattle.putting.specs.PutInCode.{Put};
 ghost use Rattle.writer.specs.WriterInCode.{lineNumbers, countNumbers, Small, SmallWords, LatchLine, Shows, block, Lines, Writable};
 
-// `aag` and a space
-fn put_magic(text: &mut [u8]) -> usize
-    requires { ⌜ 4 ≤ length (now text) ⌝ }
-    ensures { λ r. ⌜ Put (now (text .entry)) 0 magic (now (text .exit)) r ⌝ }
+// The four bytes that a file opens with.
+fn put_magic(text: &mut [u8], magic: &[u8; 4]) -> usize
+    requires { ⌜ (length (now magic) ≡ 4) × (4 ≤ length (now text)) ⌝ }
+    ensures { λ r. ⌜ Put (now (text .entry)) 0 (now (magic .entry)) (now (text .exit)) r ⌝ }
 {
-    text[0] = MAGIC[0];
-    text[1] = MAGIC[1];
-    text[2] = MAGIC[2];
-    text[3] = MAGIC[3];
+    text[0] = magic[0];
+    text[1] = magic[1];
+    text[2] = magic[2];
+    text[3] = magic[3];
     4
 }
 
 // A line's first number, 0, 1 or 2 more, and how many words of the table belong to it.
-struct LineNumbers {
-    more: usize,
-    first: usize,
-    second: usize,
-    third: usize,
-    words: usize,
+pub struct LineNumbers {
+    pub more: usize,
+    pub first: usize,
+    pub second: usize,
+    pub third: usize,
+    pub words: usize,
 }
 
-fn put_line(text: &mut [u8], at: usize, line: LineNumbers) -> usize
+pub fn put_line(text: &mut [u8], at: usize, line: LineNumbers) -> usize
     requires { ⌜ Small line × (at + length (lineText (lineNumbers line)) ≤ length (now text)) ⌝ }
     ensures { λ r. ⌜ Put (now (text .entry)) at (lineText (lineNumbers line)) (now (text .exit)) r ⌝ }
 {
@@ -56,7 +56,7 @@ fn put_line(text: &mut [u8], at: usize, line: LineNumbers) -> usize
 }
 
 // The number that stands for a reset of 1, or for no start value.
-fn shown_reset(own: usize, reset: usize) -> usize
+pub fn shown_reset(own: usize, reset: usize) -> usize
     requires { ⌜ (own < 10000) × (0 < reset) ⌝ }
     ensures { λ r. ⌜ (r < 10000) × (shown own reset ≡ r ∷ []) ⌝ }
 {
@@ -92,7 +92,7 @@ fn latch_line(own: usize, next: usize, reset: usize) -> LineNumbers
 // The line of a kind whose words stand at word `at`.
 fn written_line(kind: u8, own: usize, table: &[u16], at: usize) -> LineNumbers
     requires { ⌜ (own < 10000) × (at + width (coded kind own) ≤ length (now table)) × SmallWords (now table) (at + width (coded kind own)) ⌝ }
-    ensures { λ r. ⌜ Shows kind own (now (table .entry)) at r ⌝ }
+    ensures { λ r. ⌜ Shows lineOf kind own (now (table .entry)) at r ⌝ }
 {
     if kind == INPUT_LINE {
         return LineNumbers {
@@ -136,8 +136,8 @@ fn put_lines(
     table: &[u16],
     at: usize,
 ) -> usize
-    requires { ⌜ Lines kind own count (now table) at × (start + length (block kind own count (now table) at) ≤ length (now text)) ⌝ }
-    ensures { λ r. ⌜ Put (now (text .entry)) start (block kind own count (now (table .entry)) at) (now (text .exit)) r ⌝ }
+    requires { ⌜ Lines kind own count (now table) at × (start + length (block lineOf kind own count (now table) at) ≤ length (now text)) ⌝ }
+    ensures { λ r. ⌜ Put (now (text .entry)) start (block lineOf kind own count (now (table .entry)) at) (now (text .exit)) r ⌝ }
 {
     let mut end = start;
     let mut due = own;
@@ -163,11 +163,11 @@ fn put_counts(text: &mut [u8], at: usize, counts: Counts) -> usize
 }
 
 // Then M I L O A and a newline.
-fn put_header(text: &mut [u8], counts: Counts) -> usize
-    requires { ⌜ Bounded counts × (length (magic ++ lineText (headNumbers counts)) ≤ length (now text)) ⌝ }
-    ensures { λ r. ⌜ Put (now (text .entry)) 0 (magic ++ lineText (headNumbers counts)) (now (text .exit)) r ⌝ }
+pub fn put_first_line(text: &mut [u8], magic: &[u8; 4], counts: Counts) -> usize
+    requires { ⌜ (length (now magic) ≡ 4) × Bounded counts × (4 + length (lineText (headNumbers counts)) ≤ length (now text)) ⌝ }
+    ensures { λ r. ⌜ Put (now (text .entry)) 0 (now (magic .entry) ++ lineText (headNumbers counts)) (now (text .exit)) r ⌝ }
 {
-    let variables = put_magic(text);
+    let variables = put_magic(text, magic);
     let inputs = putting::put_word(
         text,
         variables,
@@ -177,9 +177,17 @@ fn put_header(text: &mut [u8], counts: Counts) -> usize
     put_counts(text, inputs, counts)
 }
 
+fn put_header(text: &mut [u8], counts: Counts) -> usize
+    requires { ⌜ Bounded counts × (length (plainMagic ++ lineText (headNumbers counts)) ≤ length (now text)) ⌝ }
+    ensures { λ r. ⌜ Put (now (text .entry)) 0 (plainMagic ++ lineText (headNumbers counts)) (now (text .exit)) r ⌝ }
+{
+    let magic = MAGIC;
+    put_first_line(text, &magic, counts)
+}
+
 // Then one line for each input, latch, lamp and gate, in that order.
 fn put_text(text: &mut [u8], counts: Counts, table: &[u16]) -> usize
-    requires { ⌜ Writable counts (now table) (length (now text)) ⌝ }
+    requires { ⌜ Writable counts (now table) (writeText counts (now table)) (length (now text)) ⌝ }
     ensures { λ r. ⌜ Put (now (text .entry)) 0 (writeText counts (now (table .entry))) (now (text .exit)) r ⌝ }
 {
     let latch = 2 + 2 * counts.inputs;
@@ -227,7 +235,7 @@ fn digits(n: usize) -> usize
     4
 }
 
-fn line_length(line: LineNumbers) -> usize
+pub fn line_length(line: LineNumbers) -> usize
     requires { ⌜ Small line ⌝ }
     ensures { λ r. ⌜ r ≡ length (lineText (lineNumbers line)) ⌝ }
 {
@@ -243,8 +251,8 @@ fn line_length(line: LineNumbers) -> usize
 }
 
 fn count_lines(start: usize, kind: u8, own: usize, count: usize, table: &[u16], at: usize) -> usize
-    requires { ⌜ Lines kind own count (now table) at × (start + length (block kind own count (now table) at) ≤ 60000) ⌝ }
-    ensures { λ r. ⌜ r ≡ start + length (block kind own count (now (table .entry)) at) ⌝ }
+    requires { ⌜ Lines kind own count (now table) at × (start + length (block lineOf kind own count (now table) at) ≤ 60000) ⌝ }
+    ensures { λ r. ⌜ r ≡ start + length (block lineOf kind own count (now (table .entry)) at) ⌝ }
 {
     let mut end = start;
     let mut due = own;
@@ -259,9 +267,9 @@ fn count_lines(start: usize, kind: u8, own: usize, count: usize, table: &[u16], 
 }
 
 // The four bytes, the five numbers, and a byte behind each.
-fn header_length(counts: Counts) -> usize
+pub fn header_length(counts: Counts) -> usize
     requires { ⌜ Bounded counts ⌝ }
-    ensures { λ r. ⌜ r ≡ length (magic ++ lineText (headNumbers counts)) ⌝ }
+    ensures { λ r. ⌜ r ≡ 4 + length (lineText (headNumbers counts)) ⌝ }
 {
     let variables = digits(counts.inputs + counts.latches + counts.gates);
     let inputs = digits(counts.inputs);
@@ -272,7 +280,7 @@ fn header_length(counts: Counts) -> usize
 }
 
 fn text_length(counts: Counts, table: &[u16]) -> usize
-    requires { ⌜ Writable counts (now table) 60000 ⌝ }
+    requires { ⌜ Writable counts (now table) (writeText counts (now table)) 60000 ⌝ }
     ensures { λ r. ⌜ r ≡ length (writeText counts (now (table .entry))) ⌝ }
 {
     let latch = 2 + 2 * counts.inputs;

@@ -17,7 +17,7 @@ returns : tie.Need-returns
 returns c = let pre = c .before .before .before .before .before .pre in large-board _ _ (pre .1) (pre .0) (pre .2) (c .before .before .small-refusal .ensures) (c .before .if1 .taken) (c .refused .ensures .0) (c .refused .ensures .1)
 
 fill-requires : tie.Need-fill-requires
-fill-requires c κs = let pre = c .before .before .before .before .before .pre in own-fillable _ (pre .1) (pre .0) fresh refl (sym (c .before .if1 .left) ∙ c .before .before .small-refusal .ensures)
+fill-requires c κs = let pre = c .before .before .before .before .before .pre in (pre .0 .bounded, own-fillable _ (pre .1) (pre .0) fresh refl (sym (c .before .if1 .left) ∙ c .before .before .small-refusal .ensures))
 
 feed-refusal-requires : tie.Need-feed-refusal-requires
 feed-refusal-requires c κs = let pre = c .before .before .before .before .before .before .before .before .pre in (pre .0 .bounded, own-covers _ (pre .1) (pre .0) fresh (c .before .before .fill .ensures))
@@ -28,7 +28,7 @@ returns-2 c =
     badly-fed _ _ (pre .1) (pre .0) (pre .2) (sym (c .before .before .before .before .before .before .before .if1 .left) ∙ c .before .before .before .before .before .before .before .before .small-refusal .ensures) fresh (c .before .before .before .before .before .fill .ensures) (c .before .before .feed-refusal .ensures) (c .before .if2 .taken) (c .refused2 .ensures .0) (c .refused2 .ensures .1)
 
 fill-requires-2 : tie.Need-fill-requires-2
-fill-requires-2 c κs = let pre = c .before .before .before .before .before .before .before .before .before .before .before .pre in body-fillable _ (pre .1) (pre .0) _ (pre .2)
+fill-requires-2 c κs = let pre = c .before .before .before .before .before .before .before .before .before .before .before .pre in (pre .0 .bounded, body-fillable _ (pre .1) (pre .0) _ (pre .2))
 
 returns-3 : tie.Need-returns-3
 returns-3 c =

@@ -1,6 +1,7 @@
 -- `reader::read_ended` meets its contract: the text is judged as a whole before a word is stored. Assumes nothing.
-use Rattle.reader.proofs.Answering.{answers-refused, starts, answers-short, fillable, answers-filled}
+use Rattle.reader.proofs.Answering.{read-so, read-whole, answers-refused, starts, answers-short, fillable, answers-filled}
 use native.Mathlib.Omega.{arith}
+use Rattle.text.specs.Text.{circuitLines}
 use borrow.Author.Needs.{needs}
 use Rattle.reader.proofs.read_ended.Statement.{statement}
 use Rattle.reader.proofs.read_ended.Tie as tie
@@ -8,7 +9,7 @@ use Rattle.reader.proofs.read_ended.Tie as tie
 returns : tie.Need-returns
 returns c =
     let known = c .before .before in
-    answers-refused _ _ (known .before .before .before .before .before .pre .1) (known .before .before .judge .ensures) (known .judgement .given .1) (c .refused .ensures .0) (c .refused .ensures .1)
+    answers-refused _ _ (circuitLines _) _ _ (read-so _ (known .before .before .before .before .before .pre .1)) (known .before .before .judge .ensures) (known .judgement .given .1) (c .refused .ensures .0) (c .refused .ensures .1)
 
 table-length-requires : tie.Need-table-length-requires
 table-length-requires c κs = starts (c .before .before .before .judge .ensures) (c .before .judgement2 .given .1) .bounded
@@ -16,17 +17,19 @@ table-length-requires c κs = starts (c .before .before .before .judge .ensures)
 returns-2 : tie.Need-returns-2
 returns-2 c =
     let known = c .before .before .before .before in
-    answers-short _ _ (known .before .before .before .before .before .pre .1) (known .before .before .judge .ensures) (known .judgement2 .given .1) (c .refused2 .ensures .0) (c .refused2 .ensures .1) (omega arith)
+    answers-short _ _ (circuitLines _) _ _ (read-so _ (known .before .before .before .before .before .pre .1)) (known .before .before .judge .ensures) (known .judgement2 .given .1) (c .refused2 .ensures .0) (c .refused2 .ensures .1) (omega arith)
 
 fill-requires : tie.Need-fill-requires
 fill-requires c κs =
-    let known = c .before .before .before .before in
-    fillable _ _ (known .before .before .before .before .before .pre .1) (known .before .before .judge .ensures) (known .judgement2 .given .1) (omega arith)
+    let known = c .before .before .before .before in (
+      starts (known .before .before .judge .ensures) (known .judgement2 .given .1) .bounded,
+      fillable _ _ (circuitLines _) _ _ (read-so _ (known .before .before .before .before .before .pre .1)) (known .before .before .judge .ensures) (known .judgement2 .given .1) (omega arith) (read-whole _),
+    )
 
 returns-3 : tie.Need-returns-3
 returns-3 c =
     let known = c .before .before .before .before .before .before .before in
-    answers-filled _ _ (known .before .before .before .before .before .pre .1) (known .before .before .judge .ensures) (known .judgement2 .given .1) (omega arith) (c .before .before .fill .ensures)
+    answers-filled _ _ (circuitLines _) _ _ (read-so _ (known .before .before .before .before .before .pre .1)) (known .before .before .judge .ensures) (known .judgement2 .given .1) (omega arith) (c .before .before .fill .ensures)
 
 pub read-ended-spec : {M : Type 1} → statement M
 read-ended-spec =

@@ -1,9 +1,9 @@
--- `writer::put_header` meets its contract: the four bytes, M, and the counts behind it. Assumes nothing.
+-- `writer::put_first_line` meets its contract: the four bytes, M, and the counts behind it. Assumes nothing.
 use Rattle.putting.proofs.Putting.{put-then}
 use Rattle.writer.proofs.WrittenLine.{head-text, head-length}
 use native.Mathlib.Omega.{arith}
-use Rattle.writer.proofs.put_header.Statement.{statement}
-use Rattle.writer.proofs.put_header.Tie as tie
+use Rattle.writer.proofs.put_first_line.Statement.{statement}
+use Rattle.writer.proofs.put_first_line.Tie as tie
 
 put-magic-requires : tie.Need-put-magic-requires
 put-magic-requires c κs =
@@ -18,7 +18,7 @@ put-word-requires c κs =
 put-counts-requires : tie.Need-put-counts-requires
 put-counts-requires c κs =
     let start = c .before .before .before .before .before .before .before .before .before .before .before .before in
-    (start .pre .0, omega (arith, head-length (start .args .counts)))
+    (start .pre .1, omega (arith, head-length (start .args .counts)))
 
 returns : tie.Need-returns
 returns c =
@@ -26,10 +26,10 @@ returns c =
     let variables = others .before .before .before .before in
     let opening = variables .before .before .before .before .before .before in
     let start = opening .before .before .before in
-    rw (head-text (start .args .counts)) (put-then (put-then (opening .put-magic .ensures) (variables .put-word .ensures .0)) (others .put-counts .ensures))
+    rw (head-text (start .args .counts) (start .args .magic .now)) (put-then (put-then (opening .put-magic .ensures) (variables .put-word .ensures .0)) (others .put-counts .ensures))
 
-pub put-header-spec : {M : Type 1} → statement M
-put-header-spec =
+pub put-first-line-spec : {M : Type 1} → statement M
+put-first-line-spec =
     tie.close
     (tie.spec
     put-magic-requires

@@ -1,0 +1,11 @@
+pub mod Differences
+pub mod Gates
+pub mod Rows
+pub mod OrderedRows
+pub mod Ordering
+pub mod Describing
+pub mod ReadRows
+pub mod Grammar
+pub mod Behaviour
+pub mod Bound
+pub mod RoundTrip

@@ -1,0 +1,4 @@
+pub mod Finding
+pub mod OwnLine
+pub mod Judging
+pub mod Filling
