@@ -5,10 +5,12 @@
  *   read WORDS BYTES TEXT
  *   any TABLEWORDS LISTWORDS BYTES TEXT
  *   readbinary WORDS BYTES TEXT
+ *   readbeginners WORDS BYTES TEXT
  *   write I L O A WORDS w.. BYTES
  *   writebinary I L O A WORDS w.. BYTES
  *   tick I L O A WORDS w.. STATE b.. SWITCHES b.. NEXT LAMPS
  *   chain I L O A WORDS w.. W CUBES
+ *   chainbeginners I L O A WORDS w.. CUBES
  *   judge I L O A WORDS w.. CUBES b.. N J VERDICT SETTLED
  *   cover I L O A WORDS w.. CUBES b.. N VERDICT
  *   why I L O A WORDS w.. STATE b.. LAMP WHY
@@ -227,7 +229,7 @@ static uint16_t given_table[MOST_WORDS];
 
 typedef chudravik_read_answer reader(const uint8_t *text, size_t text_bytes, uint16_t *table, size_t table_words);
 
-static void answer_read(line_rest rest, const char *name, reader *read)
+static void answer_reader(line_rest rest, const char *name, reader *simulate)
 {
     static uint8_t text[MOST_BYTES];
     size_t words = take_number(&rest);
@@ -237,7 +239,7 @@ static void answer_read(line_rest rest, const char *name, reader *read)
         return;
     }
     uint16_t *table = lend(words * sizeof *table);
-    chudravik_read_answer answer = read(text, bytes, table, words);
+    chudravik_read_answer answer = simulate(text, bytes, table, words);
     printf("%s number %u I %zu L %zu O %zu A %zu", name, (unsigned)answer.number, answer.counts.inputs,
            answer.counts.latches, answer.counts.lamps, answer.counts.gates);
     show_words("table", table, words);
@@ -324,6 +326,22 @@ static void answer_chain(line_rest rest)
     uint8_t *cubes = lend(cubes_bytes);
     chudravik_chain_answer answer = simulate_chain(counts, given_table, words, w, cubes, cubes_bytes);
     printf("chain number %u n %zu j %zu", (unsigned)answer.number, answer.cubes, answer.back);
+    show_bytes("cubes", cubes, cubes_bytes);
+    putchar('\n');
+    free(cubes);
+}
+
+static void answer_chain_beginners(line_rest rest)
+{
+    chudravik_counts counts = take_counts(&rest);
+    size_t words = take_words(&rest, given_table);
+    size_t cubes_bytes = take_number(&rest);
+    if (is_turned_away(&rest, words, cubes_bytes)) {
+        return;
+    }
+    uint8_t *cubes = lend(cubes_bytes);
+    chudravik_chain_answer answer = simulate_chain_beginners(counts, given_table, words, cubes, cubes_bytes);
+    printf("chainbeginners number %u n %zu j %zu", (unsigned)answer.number, answer.cubes, answer.back);
     show_bytes("cubes", cubes, cubes_bytes);
     putchar('\n');
     free(cubes);
@@ -430,9 +448,11 @@ static void answer_line(line_rest rest)
         fwrite(rest.at, 1, (size_t)(rest.end - rest.at), stdout);
         putchar('\n');
     } else if (skip_name(&rest, "readbinary")) {
-        answer_read(rest, "readbinary", simulate_read_binary);
+        answer_reader(rest, "readbinary", simulate_read_binary);
+    } else if (skip_name(&rest, "readbeginners")) {
+        answer_reader(rest, "readbeginners", simulate_read_beginners);
     } else if (skip_name(&rest, "read")) {
-        answer_read(rest, "read", simulate_read);
+        answer_reader(rest, "read", simulate_read);
     } else if (skip_name(&rest, "any")) {
         answer_any(rest);
     } else if (skip_name(&rest, "writebinary")) {
@@ -441,6 +461,8 @@ static void answer_line(line_rest rest)
         answer_write(rest, "write", simulate_write);
     } else if (skip_name(&rest, "tick")) {
         answer_tick(rest);
+    } else if (skip_name(&rest, "chainbeginners")) {
+        answer_chain_beginners(rest);
     } else if (skip_name(&rest, "chain")) {
         answer_chain(rest);
     } else if (skip_name(&rest, "judge")) {

@@ -161,6 +161,37 @@ static void make_table(const plan *p, uint16_t *table)
     }
 }
 
+/* Beginners' boards: a counter again, and gates of chance, with no constant and no gate fed twice by one variable. */
+static const plan BOARDS[] = {
+    {"small", {1, 4, 2, 14}, 4, 0},
+    {"largest", {4, 8, 8, 32}, 8, 0},
+};
+
+enum { BOARD_COUNT = sizeof BOARDS / sizeof BOARDS[0] };
+
+static void make_board(const plan *p, uint16_t *table)
+{
+    const chudravik_counts *c = &p->counts;
+    builder b = {table, table + 2 * c->latches, table + 2 * c->latches + c->lamps, 1 + c->inputs,
+                 1 + c->inputs + c->latches, 0};
+    uint16_t carry = latch_literal(&b, 0);
+    set_latch(&b, 0, inverse(carry), 0);
+    for (size_t i = 1; i < c->latches; i++) {
+        uint16_t own = latch_literal(&b, i), both = add_gate(&b, own, carry);
+        uint16_t neither = add_gate(&b, inverse(own), inverse(carry));
+        set_latch(&b, i, add_gate(&b, inverse(both), inverse(neither)), 0);
+        carry = both;
+    }
+    while (b.gate_count < c->gates) {
+        size_t below = b.first_gate + b.gate_count - 1, left = random_below(2 * below);
+        size_t right = (left / 2 + 1 + random_below(below - 1)) % below;
+        add_gate(&b, (uint16_t)(2 + left), (uint16_t)(2 + 2 * right));
+    }
+    for (size_t i = 0; i < c->lamps; i++) {
+        b.lamps[i] = (uint16_t)(2 + random_below(2 * (c->inputs + c->latches + c->gates)));
+    }
+}
+
 static void make_record(uint8_t *record, size_t fields)
 {
     memset(record, 0, CHUDRAVIK_RECORD_BYTES(fields));
@@ -220,11 +251,11 @@ static void make_question(request *r)
     }
 }
 
-static void make_request(const plan *p, request *r)
+static void make_request(const plan *p, request *r, void table_maker(const plan *, uint16_t *))
 {
     memset(r, 0, sizeof *r);
     r->counts = p->counts;
-    make_table(p, r->table);
+    table_maker(p, r->table);
     make_record(r->state, p->counts.latches);
     make_record(r->switches, p->counts.inputs);
     r->table_words = CHUDRAVIK_MOST_TABLE_WORDS;
@@ -310,6 +341,9 @@ static answer of_cover(chudravik_cover_answer a)
 }
 
 #define READ(side, r, b) of_read(side##_read(r->text, r->text_bytes, b->table, r->table_words))
+#define READ_BEGINNERS(side, r, b) of_read(side##_read_beginners(r->text, r->text_bytes, b->table, r->table_words))
+#define CHAIN_BEGINNERS(side, r, b)                                                                             \
+    of_chain(side##_chain_beginners(r->counts, r->table, r->table_words, b->cubes, r->cubes_bytes))
 #define WRITE(side, r, b) of_write(side##_write(r->counts, r->table, r->table_words, b->text, r->text_room))
 #define READ_BINARY(side, r, b) of_read(side##_read_binary(r->binary, r->binary_bytes, b->table, r->table_words))
 #define WRITE_BINARY(side, r, b)                                                                                \
@@ -346,7 +380,11 @@ SIDE(library_judge, JUDGE, chudravik)
 SIDE(library_cover, COVER, chudravik)
 SIDE(library_why, WHY, chudravik)
 SIDE(library_merge, MERGE, chudravik)
+SIDE(library_read_beginners, READ_BEGINNERS, chudravik)
+SIDE(library_chain_beginners, CHAIN_BEGINNERS, chudravik)
 SIDE(c_read, READ, plain)
+SIDE(c_read_beginners, READ_BEGINNERS, plain)
+SIDE(c_chain_beginners, CHAIN_BEGINNERS, plain)
 SIDE(c_write, WRITE, plain)
 SIDE(c_read_binary, READ_BINARY, plain)
 SIDE(c_write_binary, WRITE_BINARY, plain)
@@ -390,6 +428,8 @@ static const pair RUNNING = {"both", library_run, c_run};
 static const pair COVERING = {"cover", library_cover, c_cover};
 static const pair ASKING = {"why", library_why, c_why};
 static const pair MERGING = {"merge", library_merge, c_merge};
+static const pair READING_BOARD = {"readbg", library_read_beginners, c_read_beginners};
+static const pair CHAINING_BOARD = {"chainb", library_chain_beginners, c_chain_beginners};
 
 /* ---- equal answers ---- */
 
@@ -630,6 +670,32 @@ static void check_merges(const request *sound)
     expect(&MERGING, &r, CHUDRAVIK_COUNTS);
 }
 
+static void check_boards(const request *sound)
+{
+    static request r;
+    r = *sound;
+    r.table_words = 0;
+    expect(&READING_BOARD, &r, CHUDRAVIK_TOO_SHORT);
+    expect(&CHAINING_BOARD, &r, CHUDRAVIK_TOO_SHORT);
+    r = *sound;
+    r.cubes_bytes = CHUDRAVIK_BEGINNERS_CUBE_BYTES;
+    expect(&CHAINING_BOARD, &r, CHUDRAVIK_ACCEPTED);
+    r.cubes_bytes--;
+    expect(&CHAINING_BOARD, &r, CHUDRAVIK_CUBE_BUFFER);
+    r.cubes_bytes = CHUDRAVIK_MOST_CUBE_BYTES + 1;
+    expect(&CHAINING_BOARD, &r, CHUDRAVIK_CUBE_BUFFER);
+    r.table[0] = 1;
+    expect(&CHAINING_BOARD, &r, CHUDRAVIK_BEGINNERS);
+    r.counts.lamps = 0;
+    expect(&CHAINING_BOARD, &r, CHUDRAVIK_NO_LAMPS);
+    r = *sound;
+    r.text_bytes = chudravik_write(r.counts, r.table, r.table_words, r.text, r.text_room).bytes;
+    expect(&READING_BOARD, &r, CHUDRAVIK_ACCEPTED);
+    r.table[0] = 1;
+    r.text_bytes = chudravik_write(r.counts, r.table, r.table_words, r.text, r.text_room).bytes;
+    expect(&READING_BOARD, &r, CHUDRAVIK_BEGINNERS);
+}
+
 /* ---- times ---- */
 
 static double now(void)
@@ -681,7 +747,7 @@ static times measure(const pair *p, const request *r, size_t rounds)
 
 /* ---- the report ---- */
 
-static request requests[CIRCUITS], deepest;
+static request requests[CIRCUITS], deepest, boards[BOARD_COUNT];
 
 /* The same with bytes 13 and 10 at the end of each line; the largest is then over what is read. */
 static request saved[CIRCUITS];
@@ -743,7 +809,7 @@ static void print_circuit(size_t i)
 static void check_all(void)
 {
     for (size_t i = 0; i < CIRCUITS; i++) {
-        make_request(&PLANS[i], &requests[i]);
+        make_request(&PLANS[i], &requests[i], make_table);
         expect(&READING, &requests[i], CHUDRAVIK_ACCEPTED);
         expect(&WRITING, &requests[i], CHUDRAVIK_ACCEPTED);
         expect(&READING_BINARY, &requests[i], CHUDRAVIK_ACCEPTED);
@@ -759,6 +825,15 @@ static void check_all(void)
     }
     make_deepest(&requests[CIRCUITS - 1], &deepest);
     expect(&ASKING, &deepest, CHUDRAVIK_ACCEPTED);
+    for (size_t i = 0; i < BOARD_COUNT; i++) {
+        make_request(&BOARDS[i], &boards[i], make_board);
+        expect(&READING_BOARD, &boards[i], CHUDRAVIK_ACCEPTED);
+        printf("a %s beginners' board of %zu latches: %zu cubes\n", BOARDS[i].name, BOARDS[i].counts.latches,
+               expect(&CHAINING_BOARD, &boards[i], CHUDRAVIK_ACCEPTED).numbers[1]);
+        expect(&CHAINING, &boards[i], CHUDRAVIK_ACCEPTED);
+    }
+    expect(&READING_BOARD, &requests[CIRCUITS - 1], CHUDRAVIK_BEGINNERS);
+    expect(&CHAINING_BOARD, &requests[CIRCUITS - 1], CHUDRAVIK_BEGINNERS);
     for (size_t i = 0; i < SAVED; i++) {
         save_at_the_office(&requests[i], &saved[i]);
         expect(&READING, &saved[i], CHUDRAVIK_ACCEPTED);
@@ -772,6 +847,7 @@ static void check_all(void)
     check_covers(&requests[0]);
     check_questions(&requests[0]);
     check_merges(&requests[0]);
+    check_boards(&boards[0]);
     printf("equal answers and bytes from both sides\n\n");
 }
 
@@ -794,6 +870,13 @@ static void report(const pair *p, const request *given, size_t count, double (*w
         fflush(stdout);
         before = t;
     }
+}
+
+static void report_one(const pair *p, const request *given, const char *name, size_t rounds)
+{
+    times t = measure(p, given, rounds);
+    printf("%-6s %-8s %12.1f %12.1f %7.3f\n", p->name, name, t.library, t.plain, t.library / t.plain);
+    fflush(stdout);
 }
 
 static size_t rounds_from(int argc, char **argv)
@@ -828,9 +911,12 @@ int main(int argc, char **argv)
     report(&RUNNING, requests, CIRCUITS, words_times_cubes, "words x cubes", rounds, both);
     report(&COVERING, requests, CIRCUITS, words_times_sent, "words x 512 cubes", rounds, NULL);
     report(&ASKING, requests, CIRCUITS, words_of_table, "words of table", rounds, NULL);
-    times deep = measure(&ASKING, &deepest, rounds);
-    printf("%-6s %-8s %12.1f %12.1f %7.3f\n", ASKING.name, "deepest", deep.library, deep.plain, deep.library / deep.plain);
+    report_one(&ASKING, &deepest, "deepest", rounds);
     report(&MERGING, requests, CIRCUITS, bytes_of_record, "bytes of record", rounds, NULL);
+    for (size_t i = 0; i < BOARD_COUNT; i++) {
+        report_one(&READING_BOARD, &boards[i], BOARDS[i].name, rounds);
+        report_one(&CHAINING_BOARD, &boards[i], BOARDS[i].name, rounds);
+    }
     printf("\nwith a lamp added, the judge alone for both calls:");
     for (size_t i = 0; i < CIRCUITS; i++) {
         printf(" %s %.2f", PLANS[i].name, judge[i] / both[i]);

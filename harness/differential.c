@@ -1105,6 +1105,11 @@ static bool can_give(enum call call, size_t outcome)
                outcome == TEN_TABLE || outcome == TEN_RESULT;
     case READ_BINARY:
         return (outcome <= 9 && outcome != 5) || outcome == 26 || outcome == TEN_TABLE;
+    case READ_BEGINNERS:
+        return outcome <= 9 || outcome == TEN_TABLE || outcome == 25;
+    case CHAIN_BEGINNERS:
+        return outcome == 0 || outcome == 3 || outcome == 11 || outcome == 13 || outcome == 16 || outcome == 25 ||
+               outcome == TEN_TABLE;
     case WRITE:
     case WRITE_BINARY:
         return outcome == 0 || outcome == 3 || outcome == 11 || outcome == TEN_TABLE || outcome == TEN_RESULT;
@@ -1178,6 +1183,23 @@ enum sight {
     MERGE_ALIKE,
     MERGE_NOTHING,
     MERGE_LONGEST,
+    BOARD_LARGEST,
+    BOARD_LONG,
+    BOARD_UNKNOWN,
+    BOARD_TEN_THOUGH_LARGE,
+    BUFFER_19682,
+    BUFFER_19683,
+    BUFFER_65536,
+    BUFFER_65537,
+    OUTSIDE_INPUTS,
+    OUTSIDE_LATCHES,
+    OUTSIDE_LAMPS,
+    OUTSIDE_GATES,
+    OUTSIDE_NEXT,
+    OUTSIDE_LAMP,
+    OUTSIDE_OPERAND,
+    OUTSIDE_TWICE,
+    OUTSIDE_INVERTED,
     SIGHTS
 };
 
@@ -1223,6 +1245,23 @@ static const char *const sight_names[SIGHTS] = {
     "merges of a record with itself",
     "merges that leave nothing known of what both know",
     "merges of 512 fields",
+    "beginners' boards accepted with 4, 8, 8 and 32",
+    "beginners' boards with 100 cubes or more",
+    "beginners' boards with X in their cubes",
+    "texts refused with 10 that are outside the beginners' rules",
+    "beginners' chains refused for 19,682 bytes",
+    "beginners' chains in 19,683 bytes",
+    "beginners' chains in 65,536 bytes",
+    "beginners' chains refused for 65,537 bytes",
+    "boards refused with 25 for 5 switches",
+    "boards refused with 25 for 9 latches",
+    "boards refused with 25 for 9 lamps",
+    "boards refused with 25 for 33 gates",
+    "boards refused with 25 for a constant next literal",
+    "boards refused with 25 for a constant lamp",
+    "boards refused with 25 for a constant operand",
+    "boards refused with 25 for an operand twice",
+    "boards refused with 25 for a variable and its inverse",
 };
 
 static uint64_t seen[SIGHTS];
@@ -2124,6 +2163,176 @@ static void try_why(circuit *c)
     see(WHY_DEEP, deep && lamp == 0 && c->counts.gates >= 1000);
 }
 
+/* ---- beginners' boards ---- */
+
+enum { BOARD_INPUTS = 4, BOARD_LATCHES = 8, BOARD_LAMPS = 8, BOARD_GATES = 32, LEAST_BOARD_CUBES = 19683 };
+
+/* How a board is outside the beginners' rules, in the order of the sights; a board of chance may be so in any way. */
+enum outside { MANY_INPUTS, MANY_LATCHES, MANY_LAMPS, MANY_GATES, NEXT_CONSTANT, LAMP_CONSTANT, OPERAND_CONSTANT, FED_TWICE,
+               FED_INVERTED, INSIDE, BY_ITS_SIZE };
+
+static size_t board_count(size_t most, bool one_more)
+{
+    return one_more ? most + 1 : ONE_OF(most, most, 1, 2, below(most + 1));
+}
+
+/* The literal of a variable up to this one. */
+static size_t literal_up_to(size_t variable)
+{
+    return 2 + below(2 * variable);
+}
+
+static void add_board_gate(circuit *c)
+{
+    size_t variable = variables(c), left = literal_up_to(variable);
+    size_t right = 2 * (1 + (left / 2 + below(variable - 1)) % variable);
+    add_gate(c, left, perhaps_inverted(right));
+}
+
+/* A counter without a constant: latch 0 is inverted at each tick, and is the carry. */
+static void add_board_counter(circuit *c, size_t gates)
+{
+    size_t carry = latch_literal(c, 0);
+    c->next[0] = (uint16_t)(carry ^ 1);
+    for (size_t i = 1; i < c->counts.latches && c->counts.gates + 3 <= gates; i++) {
+        size_t own = latch_literal(c, i), both = add_gate(c, own, carry);
+        c->next[i] = (uint16_t)add_gate(c, both ^ 1, add_gate(c, own ^ 1, carry ^ 1) ^ 1);
+        carry = both;
+    }
+}
+
+/* One literal, or one gate; what the board has none of stays as it is. */
+static void put_outside(circuit *c, enum outside outside)
+{
+    if (outside == NEXT_CONSTANT && c->counts.latches > 0)
+        c->next[below(c->counts.latches)] = (uint16_t)below(2);
+    if (outside == LAMP_CONSTANT && c->counts.lamps > 0)
+        c->lamp[below(c->counts.lamps)] = (uint16_t)below(2);
+    if (outside < OPERAND_CONSTANT || outside > FED_INVERTED || c->counts.gates == 0)
+        return;
+    uint16_t *operand = c->operand[below(c->counts.gates)];
+    size_t side = below(2);
+    operand[side] = outside == OPERAND_CONSTANT ? (uint16_t)below(2) : operand[!side] ^ (outside == FED_INVERTED);
+}
+
+static enum outside make_board(circuit *c)
+{
+    enum outside outside = chance(55) ? INSIDE : (enum outside)below(INSIDE);
+    if (chance(8)) {
+        make_circuit(c, 15);
+        return BY_ITS_SIZE;
+    }
+    c->counts = (chudravik_counts){0};
+    c->counts.inputs = board_count(BOARD_INPUTS, outside == MANY_INPUTS);
+    c->counts.latches = board_count(BOARD_LATCHES, outside == MANY_LATCHES);
+    c->counts.lamps = chance(6) ? 0 : board_count(BOARD_LAMPS, outside == MANY_LAMPS);
+    size_t gates = board_count(BOARD_GATES, outside == MANY_GATES);
+    if (variables(c) < 2)
+        c->counts.inputs = 2;
+    for (size_t i = 0; i < c->counts.latches; i++)
+        c->next[i] = 0;
+    if (c->counts.latches > 1 && chance(50))
+        add_board_counter(c, gates);
+    while (c->counts.gates < gates)
+        add_board_gate(c);
+    for (size_t i = 0; i < c->counts.latches; i++)
+        if (c->next[i] == 0)
+            c->next[i] = (uint16_t)literal_up_to(variables(c));
+    set_resets(c);
+    for (size_t i = 0; i < c->counts.lamps; i++)
+        c->lamp[i] = (uint16_t)literal_up_to(variables(c));
+    put_outside(c, outside);
+    return outside;
+}
+
+static void see_board(uint32_t number, chudravik_counts counts, enum outside outside)
+{
+    see(BOARD_LARGEST, number == 0 && counts.inputs == BOARD_INPUTS && counts.latches == BOARD_LATCHES &&
+                           counts.lamps == BOARD_LAMPS && counts.gates == BOARD_GATES);
+    if (outside < INSIDE)
+        see((enum sight)(OUTSIDE_INPUTS + outside), number == 25);
+}
+
+/* What is accepted here the reader of all circuits accepts alike, and what is refused with 25 it accepts too. */
+static void must_be_read(uint32_t number, chudravik_counts counts)
+{
+    static uint16_t word[LONGEST_BUFFER / 2];
+    chudravik_read_answer read = chudravik_read(of_library(&hand, TEXT), bytes_of(TEXT), word, table_words(&hand));
+    if (read.number != 0)
+        fail("a board that gave %" PRIu32 " is refused by the reader, with %" PRIu32, number, read.number);
+    if (number == 0 && (memcmp(&read.counts, &counts, sizeof counts) != 0 ||
+                        (words_of(counts) != 0 && memcmp(word, library_table(&hand), 2 * words_of(counts)) != 0)))
+        fail("a board is read otherwise than by the reader");
+}
+
+static void try_read_beginners(circuit *c)
+{
+    static text t;
+    enum outside outside = make_board(c);
+    twice_begin(&hand, READ_BEGINNERS, c->counts, (numbers){0});
+    make_text(&t, c);
+    lend_given(TEXT, t.byte, t.count);
+    lend_noise(TABLE, 2 * table_length_for(c));
+    make_call();
+    uint32_t number = hand.library.number;
+    note(READ_BEGINNERS, number, TEN_TABLE);
+    see_board(number, hand.library.counts, outside);
+    see(BOARD_TEN_THOUGH_LARGE, number == 10 && outside != INSIDE);
+    if (number == 0 || number == 25)
+        must_be_read(number, hand.library.counts);
+}
+
+static size_t board_cubes_length(void)
+{
+    if (troubled())
+        return ONE_OF(LEAST_BOARD_CUBES - 1, LEAST_BOARD_CUBES - 1, CUBES_CEILING + 1, CUBES_CEILING + 1, 0, 1, 2,
+                      below(LEAST_BOARD_CUBES), LONGEST_BUFFER);
+    return ONE_OF(LEAST_BOARD_CUBES, LEAST_BOARD_CUBES, CUBES_CEILING, between(LEAST_BOARD_CUBES, CUBES_CEILING));
+}
+
+/* It has closed within 3 to the power of latches cubes, and is the chain with w = 0. */
+static void must_have_closed(chudravik_counts counts, const answer *made)
+{
+    static uint8_t cubes[CUBES_CEILING];
+    size_t bound = 1, used = made->cubes * record_bytes(counts.latches);
+    for (size_t i = 0; i < counts.latches; i++)
+        bound *= 3;
+    if (made->cubes > bound)
+        fail("a beginners' board of %zu latches has stored %zu cubes", counts.latches, made->cubes);
+    chudravik_chain_answer chain =
+        chudravik_chain(counts, library_table(&hand), table_words(&hand), 0, cubes, bytes_of(CUBES));
+    if (chain.number != 0 || chain.cubes != made->cubes || chain.back != made->back ||
+        memcmp(cubes, of_library(&hand, CUBES), used) != 0)
+        fail("a beginners' board is chained otherwise than with w = 0");
+    see(BOARD_LONG, made->cubes >= 100);
+    for (size_t k = 0; k < made->cubes; k++)
+        if (has_unknown(cubes + k * record_bytes(counts.latches), counts.latches)) {
+            see(BOARD_UNKNOWN, true);
+            return;
+        }
+}
+
+static void try_chain_beginners(circuit *c)
+{
+    enum outside outside = make_board(c);
+    chudravik_counts counts = handed_counts(c);
+    twice_begin(&hand, CHAIN_BEGINNERS, counts, (numbers){0});
+    lend_table(c);
+    lend_noise(CUBES, board_cubes_length());
+    make_call();
+    uint32_t number = hand.library.number;
+    note(CHAIN_BEGINNERS, number, TEN_TABLE);
+    see_board(number, counts, outside);
+    see(BUFFER_19682, number == 13 && bytes_of(CUBES) == LEAST_BOARD_CUBES - 1);
+    see(BUFFER_19683, number == 0 && bytes_of(CUBES) == LEAST_BOARD_CUBES);
+    see(BUFFER_65536, number == 0 && bytes_of(CUBES) == CUBES_CEILING);
+    see(BUFFER_65537, number == 13 && bytes_of(CUBES) == CUBES_CEILING + 1);
+    if (number != 0)
+        return;
+    must_have_closed(counts, &hand.library);
+    must_be_judged(counts, &hand.library);
+}
+
 /* ---- merge ---- */
 
 static void merge_into(uint8_t *merged, size_t fields, const uint8_t *a, const uint8_t *b)
@@ -2228,7 +2437,7 @@ static void try_call(uint64_t number)
     number_in_hand = number;
     throw_dice(seed, number);
     set_trouble();
-    size_t roll = below(140);
+    size_t roll = below(162);
     if (roll < 28)
         try_read(&c);
     else if (roll < 38)
@@ -2249,8 +2458,12 @@ static void try_call(uint64_t number)
         try_merge();
     else if (roll < 130)
         try_read_binary(&c);
-    else
+    else if (roll < 140)
         try_write_binary(&c);
+    else if (roll < 150)
+        try_read_beginners(&c);
+    else
+        try_chain_beginners(&c);
 }
 
 /* ---- at the end ---- */

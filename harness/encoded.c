@@ -115,6 +115,11 @@ static void lay_read_binary(twice *t, string_rest *rest)
     lay_reader(t, rest, READ_BINARY);
 }
 
+static void lay_read_beginners(twice *t, string_rest *rest)
+{
+    lay_reader(t, rest, READ_BEGINNERS);
+}
+
 static void lay_read_any(twice *t, string_rest *rest)
 {
     twice_begin(t, READ_ANY, (chudravik_counts){0}, (numbers){0});
@@ -164,6 +169,14 @@ static void lay_run(twice *t, string_rest *rest)
     lend_bytes(t, rest, CUBES, take_length(rest));
     lend_bytes(t, rest, VERDICT, take_length(rest));
     lend_bytes(t, rest, SETTLED, take_length(rest));
+    give_table(t, rest, table_bytes);
+}
+
+static void lay_chain_beginners(twice *t, string_rest *rest)
+{
+    twice_begin(t, CHAIN_BEGINNERS, take_counts(rest), (numbers){0});
+    size_t table_bytes = take_words_bytes(rest);
+    lend_bytes(t, rest, CUBES, take_length(rest));
     give_table(t, rest, table_bytes);
 }
 
@@ -227,7 +240,8 @@ typedef void layer(twice *t, string_rest *rest);
 static layer *layer_of(uint8_t first)
 {
     static layer *const older[] = {lay_read, lay_write, lay_tick, lay_run};
-    static layer *const newer[] = {lay_read_any, lay_judge, lay_why, lay_merge, lay_read_binary, lay_write_binary};
+    static layer *const newer[] = {lay_read_any,    lay_judge,        lay_why,            lay_merge,
+                                   lay_read_binary, lay_write_binary, lay_read_beginners, lay_chain_beginners};
     if (first >> 4 != 0)
         return newer[((first >> 4) - 1) % (sizeof newer / sizeof newer[0])];
     return first & 8 ? lay_cover : older[first & 3];

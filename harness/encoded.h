@@ -2,11 +2,12 @@
  *
  *   byte 0      the call, and whether a word of a table is one byte (bit 2) or two. The call is by the high four bits:
  *               0 read, write, tick or run by the two low bits, or a cover where bit 3 is set; then in turn
- *               read_any, judge, why, merge, read_binary, write_binary
+ *               read_any, judge, why, merge, read_binary, write_binary, read_beginners, chain_beginners
  *   byte 1      how the buffers are laid (twice.h), two bits for each
  *   read        the table's words; how many bytes the text has at least; then the text as it is, with `x` behind it
  *   read_any    the table's words, the list's words; and on as for read
  *   read_binary as read, write_binary as write
+ *   read_beginners, chain_beginners  as read; I, L, O, A, the table's words, the bytes of cubes, then the table
  *   write       I, L, O, A, the table's words, the text's bytes; then the table
  *   tick        I, L, O, A, the table's words, the bytes of state, switches, next and lamps; then table, state, switches
  *   run         I, L, O, A, the table's words, w, the bytes of cubes, verdict and settled; then the table: a chain, and a

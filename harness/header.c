@@ -45,6 +45,24 @@ static int reads_any(chudravik_counts counts)
            CHUDRAVIK_UNDEFINED == 21 && CHUDRAVIK_LOOP == 22;
 }
 
+/* The text is a beginners' board; one whose lamp is the constant is none. */
+static int begins(chudravik_counts counts)
+{
+    static const char outside[] = "aag 0 0 0 1 0\n1\n";
+    static uint16_t same[CHUDRAVIK_MOST_TABLE_WORDS];
+    chudravik_read_answer read =
+        chudravik_read_beginners((const uint8_t *)text, sizeof text - 1, same, CHUDRAVIK_MOST_TABLE_WORDS);
+    chudravik_read_answer other =
+        chudravik_read_beginners((const uint8_t *)outside, sizeof outside - 1, same, CHUDRAVIK_MOST_TABLE_WORDS);
+    chudravik_chain_answer chain = chudravik_chain_beginners(counts, table, CHUDRAVIK_MOST_TABLE_WORDS, cubes,
+                                                             CHUDRAVIK_BEGINNERS_CUBE_BYTES);
+    chudravik_chain_answer small = chudravik_chain_beginners(counts, table, CHUDRAVIK_MOST_TABLE_WORDS, cubes,
+                                                             CHUDRAVIK_BEGINNERS_CUBE_BYTES - 1);
+    return read.number == CHUDRAVIK_ACCEPTED && read.counts.gates == counts.gates &&
+           memcmp(same, table, sizeof table) == 0 && other.number == CHUDRAVIK_BEGINNERS &&
+           chain.number == CHUDRAVIK_ACCEPTED && chain.cubes == 2 && small.number == CHUDRAVIK_CUBE_BUFFER;
+}
+
 static int writes_back(chudravik_counts counts)
 {
     size_t words = CHUDRAVIK_TABLE_WORDS(counts.latches, counts.lamps, counts.gates);
@@ -132,7 +150,7 @@ static int merges(void)
 int main(void)
 {
     chudravik_counts counts;
-    if (!version_agrees() || !reads(&counts) || !reads_any(counts) || !writes_back(counts) || !crosses(counts) || !ticks(counts) ||
+    if (!version_agrees() || !reads(&counts) || !reads_any(counts) || !begins(counts) || !writes_back(counts) || !crosses(counts) || !ticks(counts) ||
         !chains(counts) || !judges(counts) || !covers(counts) || !explains(counts) ||
         !merges()) {
         fputs("header: not as it must be\n", stderr);

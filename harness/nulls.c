@@ -1,7 +1,7 @@
 /* Null pointers with length 0: each call on several circuits, with every set of its buffers taken away and handed as
  * null. The simulator is handed an empty buffer in their place (twice.h), and both must agree. Fails too if a call was
- * never accepted with a null pointer: the circuit without counts needs no table. A chain, a judge, a cover and a why need a
- * lamp, so they need each of their buffers, and the shortest record of a merge has a byte.
+ * never accepted with a null pointer: the circuit without counts needs no table. A chain, a beginners' chain, a judge, a
+ * cover and a why need a lamp, so they need each of their buffers, and the shortest record of a merge has a byte.
  */
 #include "twice.h"
 
@@ -47,10 +47,12 @@ static const enum role buffers_of[CALLS][6] = {
     [READ] = {TEXT, TABLE, ROLES},
     [READ_ANY] = {TEXT, TABLE, LIST, ROLES},
     [READ_BINARY] = {TEXT, TABLE, ROLES},
+    [READ_BEGINNERS] = {TEXT, TABLE, ROLES},
     [WRITE] = {TABLE, TEXT, ROLES},
     [WRITE_BINARY] = {TABLE, TEXT, ROLES},
     [TICK] = {TABLE, STATE, SWITCHES, NEXT, LAMPS, ROLES},
     [CHAIN] = {TABLE, CUBES, ROLES},
+    [CHAIN_BEGINNERS] = {TABLE, CUBES, ROLES},
     [JUDGE] = {TABLE, CUBES, VERDICT, SETTLED, ROLES},
     [COVER] = {TABLE, CUBES, VERDICT, ROLES},
     [WHY] = {TABLE, STATE, REASON, ROLES},
@@ -67,9 +69,9 @@ static size_t count_buffers(enum call call)
 
 static bool is_given(enum call call, enum role role)
 {
-    bool reads = call == READ || call == READ_ANY || call == READ_BINARY;
+    bool reads = call == READ || call == READ_ANY || call == READ_BINARY || call == READ_BEGINNERS;
     return role == STATE || role == SWITCHES || role == ONE || role == OTHER || (role == TEXT && reads) || (role == TABLE && !reads) ||
-           (role == CUBES && call != CHAIN);
+           (role == CUBES && call != CHAIN && call != CHAIN_BEGINNERS);
 }
 
 static const char *text_of(const sample *s, enum call call)
@@ -108,10 +110,17 @@ static size_t given_bytes(const sample *s, enum call call, enum role role)
     }
 }
 
+static size_t result_bytes(const sample *s, enum call call, enum role role)
+{
+    if (role == TABLE || role == LIST)
+        return sizeof s->table;
+    return call == CHAIN_BEGINNERS ? CHUDRAVIK_BEGINNERS_CUBE_BYTES : RESULT_BYTES;
+}
+
 static void lend_whole(twice *t, const sample *s, enum role role)
 {
     bool given = is_given(t->call, role);
-    size_t bytes = given ? given_bytes(s, t->call, role) : role == TABLE || role == LIST ? sizeof s->table : RESULT_BYTES;
+    size_t bytes = given ? given_bytes(s, t->call, role) : result_bytes(s, t->call, role);
     if (given)
         memcpy(twice_content(t, role), given_content(s, t->call, role), bytes);
     else

@@ -383,6 +383,59 @@ chudravik_chain_answer plain_chain(chudravik_counts counts, const uint16_t *tabl
     return (chudravik_chain_answer){CHUDRAVIK_ACCEPTED, n, j};
 }
 
+/* ---- beginners' boards ---- */
+
+enum { BOARD_INPUTS = 4, BOARD_LATCHES = 8, BOARD_LAMPS = 8, BOARD_GATES = 32 };
+enum { BOARD_WORDS = 2 * BOARD_LATCHES + BOARD_LAMPS + 2 * BOARD_GATES };
+
+static bool small_board(const chudravik_counts *counts)
+{
+    return counts->inputs <= BOARD_INPUTS && counts->latches <= BOARD_LATCHES && counts->lamps <= BOARD_LAMPS &&
+           counts->gates <= BOARD_GATES;
+}
+
+static bool well_fed(const chudravik_counts *counts, const uint16_t *table)
+{
+    for (size_t i = 0; i < counts->latches; i++) {
+        if (table[2 * i] < 2) {
+            return false;
+        }
+    }
+    const uint16_t *lamps = lamps_of(counts, table);
+    for (size_t i = 0; i < counts->lamps; i++) {
+        if (lamps[i] < 2) {
+            return false;
+        }
+    }
+    const uint16_t *gates = gates_of(counts, table);
+    for (size_t i = 0; i < counts->gates; i++) {
+        uint16_t left = gates[2 * i], right = gates[2 * i + 1];
+        if (left < 2 || right < 2 || left / 2 == right / 2) {
+            return false;
+        }
+    }
+    return true;
+}
+
+/* "3, 16, 10 for the table, 11, 25, 13"; it does not widen, and always closes. */
+chudravik_chain_answer plain_chain_beginners(chudravik_counts counts, const uint16_t *table, size_t table_words,
+                                             uint8_t *cubes, size_t cubes_bytes)
+{
+    uint32_t number = board_refusal(&counts, table, table_words);
+    if (number == CHUDRAVIK_ACCEPTED && !(small_board(&counts) && well_fed(&counts, table))) {
+        number = CHUDRAVIK_BEGINNERS;
+    } else if (number == CHUDRAVIK_ACCEPTED &&
+               (cubes_bytes < CHUDRAVIK_BEGINNERS_CUBE_BYTES || cubes_bytes > CHUDRAVIK_MOST_CUBE_BYTES)) {
+        number = CHUDRAVIK_CUBE_BUFFER;
+    }
+    if (number != CHUDRAVIK_ACCEPTED) {
+        return (chudravik_chain_answer){number, 0, 0};
+    }
+    size_t n, j;
+    follow(&counts, table, 0, cubes, cubes_bytes / record_length(counts.latches), &n, &j);
+    return (chudravik_chain_answer){CHUDRAVIK_ACCEPTED, n, j};
+}
+
 /* ---- given cubes ---- */
 
 /* "3, 16, 10 for the table, 11, 10 for n records, 14" */
@@ -840,6 +893,38 @@ chudravik_read_answer plain_read(const uint8_t *text, size_t text_bytes, uint16_
     }
     if (table_words < table_length(&counts)) {
         return read_refused(CHUDRAVIK_TOO_SHORT);
+    }
+    fill(body, end, lines, &counts, table);
+    return (chudravik_read_answer){CHUDRAVIK_ACCEPTED, counts};
+}
+
+/* 25 before the first word: the board's words go into a table here first. */
+chudravik_read_answer plain_read_beginners(const uint8_t *text, size_t text_bytes, uint16_t *table, size_t table_words)
+{
+    if (text_bytes > CHUDRAVIK_MOST_TEXT) {
+        return read_refused(CHUDRAVIK_TEXT_TOO_LONG);
+    }
+    const uint8_t *body = text;
+    const uint8_t *end = text + text_bytes;
+    chudravik_counts counts;
+    ending lines;
+    uint16_t words[BOARD_WORDS];
+    uint32_t number = read_header(&body, end, &lines, &counts);
+    if (number == CHUDRAVIK_ACCEPTED) {
+        number = judge_body(body, end, lines, &counts);
+    }
+    if (number != CHUDRAVIK_ACCEPTED) {
+        return read_refused(number);
+    }
+    if (table_words < table_length(&counts)) {
+        return read_refused(CHUDRAVIK_TOO_SHORT);
+    }
+    if (!small_board(&counts)) {
+        return read_refused(CHUDRAVIK_BEGINNERS);
+    }
+    fill(body, end, lines, &counts, words);
+    if (!well_fed(&counts, words)) {
+        return read_refused(CHUDRAVIK_BEGINNERS);
     }
     fill(body, end, lines, &counts, table);
     return (chudravik_read_answer){CHUDRAVIK_ACCEPTED, counts};

@@ -7,6 +7,8 @@
 
 chudravik_read_answer plain_read(const uint8_t *text, size_t text_bytes, uint16_t *table, size_t table_words);
 
+chudravik_read_answer plain_read_beginners(const uint8_t *text, size_t text_bytes, uint16_t *table, size_t table_words);
+
 chudravik_write_answer plain_write(chudravik_counts counts, const uint16_t *table, size_t table_words, uint8_t *text,
                                    size_t text_bytes);
 
@@ -16,6 +18,9 @@ uint32_t plain_tick(chudravik_counts counts, const uint16_t *table, size_t table
 
 chudravik_chain_answer plain_chain(chudravik_counts counts, const uint16_t *table, size_t table_words, size_t w,
                                    uint8_t *cubes, size_t cubes_bytes);
+
+chudravik_chain_answer plain_chain_beginners(chudravik_counts counts, const uint16_t *table, size_t table_words,
+                                             uint8_t *cubes, size_t cubes_bytes);
 
 chudravik_judge_answer plain_judge(chudravik_counts counts, const uint16_t *table, size_t table_words,
                                    const uint8_t *cubes, size_t cubes_bytes, size_t n, size_t j, uint8_t *verdict,

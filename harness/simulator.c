@@ -368,16 +368,57 @@ static uint32_t read_text(const uint8_t *text, size_t text_bytes, circuit *c)
     return refusal;
 }
 
+/* Refusals 1 to 10. */
+static uint32_t read_for(const uint8_t *text, size_t text_bytes, circuit *c, size_t table_words)
+{
+    uint32_t refusal = read_text(text, text_bytes, c);
+    return refusal == 0 && table_words < table_length(c) ? 10 : refusal;
+}
+
+static chudravik_read_answer answer_read(uint32_t refusal, const circuit *c, uint16_t *table)
+{
+    if (refusal != 0)
+        return (chudravik_read_answer){.number = refusal};
+    to_table(c, table);
+    return (chudravik_read_answer){0, {c->inputs, c->latches, c->lamps, c->gates}};
+}
+
 chudravik_read_answer simulate_read(const uint8_t *text, size_t text_bytes, uint16_t *table, size_t table_words)
 {
     circuit c;
-    uint32_t refusal = read_text(text, text_bytes, &c);
-    if (refusal == 0 && table_words < table_length(&c))
-        refusal = 10;
-    if (refusal != 0)
-        return (chudravik_read_answer){.number = refusal};
-    to_table(&c, table);
-    return (chudravik_read_answer){0, {c.inputs, c.latches, c.lamps, c.gates}};
+    return answer_read(read_for(text, text_bytes, &c, table_words), &c, table);
+}
+
+/* ---- beginners' boards ---- */
+
+static bool constant(size_t literal)
+{
+    return literal / 2 == 0;
+}
+
+/* Request 12: "at most 4 switches, 8 latches, 8 lamps, 32 gates; no constant literal; no gate fed twice by one variable". */
+static bool is_for_beginners(const circuit *c)
+{
+    bool rules = c->inputs <= 4 && c->latches <= 8 && c->lamps <= 8 && c->gates <= 32;
+    for (size_t i = 0; i < c->latches; i++)
+        rules = rules && !constant(c->latch[i].next);
+    for (size_t i = 0; i < c->lamps; i++)
+        rules = rules && !constant(c->lamp[i]);
+    for (size_t i = 0; i < c->gates; i++) {
+        gate g = c->gate[i];
+        rules = rules && !constant(g.left) && !constant(g.right) && g.left != g.right && g.left != (g.right ^ 1);
+    }
+    return rules;
+}
+
+chudravik_read_answer simulate_read_beginners(const uint8_t *text, size_t text_bytes, uint16_t *table,
+                                              size_t table_words)
+{
+    circuit c;
+    uint32_t refusal = read_for(text, text_bytes, &c, table_words);
+    if (refusal == 0 && !is_for_beginners(&c))
+        refusal = 25;
+    return answer_read(refusal, &c, table);
 }
 
 /* ---- text: written ---- */
@@ -681,6 +722,23 @@ chudravik_chain_answer simulate_chain(chudravik_counts counts, const uint16_t *t
     if (refusal != 0)
         return (chudravik_chain_answer){.number = refusal};
     return run_circuit(&c, w, cubes, cubes_bytes / record_length(c.latches));
+}
+
+/* "A cube buffer of at least 19,683 and at most 65,536 bytes, whatever L is." */
+enum { BEGINNERS_CUBES_LEAST = 19683 };
+
+chudravik_chain_answer simulate_chain_beginners(chudravik_counts counts, const uint16_t *table, size_t table_words,
+                                                uint8_t *cubes, size_t cubes_bytes)
+{
+    circuit c;
+    uint32_t refusal = take_board(&c, counts, table, table_words);
+    if (refusal == 0 && !is_for_beginners(&c))
+        refusal = 25;
+    if (refusal == 0 && (cubes_bytes < BEGINNERS_CUBES_LEAST || cubes_bytes > CUBES_CEILING))
+        refusal = 13;
+    if (refusal != 0)
+        return (chudravik_chain_answer){.number = refusal};
+    return run_circuit(&c, 0, cubes, cubes_bytes / record_length(c.latches));
 }
 
 /* ---- given cubes ---- */

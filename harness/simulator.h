@@ -9,6 +9,9 @@
 
 chudravik_read_answer simulate_read(const uint8_t *text, size_t text_bytes, uint16_t *table, size_t table_words);
 
+chudravik_read_answer simulate_read_beginners(const uint8_t *text, size_t text_bytes, uint16_t *table,
+                                              size_t table_words);
+
 chudravik_write_answer simulate_write(chudravik_counts counts, const uint16_t *table, size_t table_words, uint8_t *text,
                                       size_t text_bytes);
 
@@ -18,6 +21,9 @@ uint32_t simulate_tick(chudravik_counts counts, const uint16_t *table, size_t ta
 
 chudravik_chain_answer simulate_chain(chudravik_counts counts, const uint16_t *table, size_t table_words, size_t w,
                                       uint8_t *cubes, size_t cubes_bytes);
+
+chudravik_chain_answer simulate_chain_beginners(chudravik_counts counts, const uint16_t *table, size_t table_words,
+                                                uint8_t *cubes, size_t cubes_bytes);
 
 chudravik_judge_answer simulate_judge(chudravik_counts counts, const uint16_t *table, size_t table_words,
                                       const uint8_t *cubes, size_t cubes_bytes, size_t n, size_t j, uint8_t *verdict,

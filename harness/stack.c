@@ -23,6 +23,7 @@ static ucontext_t here, there;
 
 static const chudravik_counts LARGEST = {CHUDRAVIK_MOST_INPUTS, CHUDRAVIK_MOST_LATCHES, CHUDRAVIK_MOST_LAMPS,
                                          CHUDRAVIK_MOST_GATES};
+static const chudravik_counts LARGEST_BOARD = {4, 8, 8, 32};
 static const chudravik_counts SMALLEST = {.lamps = 1};
 static chudravik_counts counts;
 static uint16_t table[CHUDRAVIK_MOST_TABLE_WORDS];
@@ -72,6 +73,16 @@ static void call_read_any(void)
 {
     number = chudravik_read_any(text, text_bytes, table, CHUDRAVIK_MOST_TABLE_WORDS, renumbered, CHUDRAVIK_MOST_LIST_WORDS)
                  .number;
+}
+
+static void call_read_beginners(void)
+{
+    number = chudravik_read_beginners(text, text_bytes, table, CHUDRAVIK_MOST_TABLE_WORDS).number;
+}
+
+static void call_chain_beginners(void)
+{
+    number = chudravik_chain_beginners(counts, table, CHUDRAVIK_MOST_TABLE_WORDS, cubes, sizeof cubes).number;
 }
 
 static void call_tick(void)
@@ -176,7 +187,9 @@ static const named_call WRITE = {"write", call_write, CHUDRAVIK_MOST_STACK},
                         JUDGE = {"judge", call_judge, CHUDRAVIK_MOST_STACK},
                         COVER = {"cover", call_cover, CHUDRAVIK_MOST_STACK},
                         WHY = {"why", call_why, CHUDRAVIK_WHY_STACK},
-                        MERGE = {"merge", call_merge, CHUDRAVIK_MOST_STACK};
+                        MERGE = {"merge", call_merge, CHUDRAVIK_MOST_STACK},
+                        READ_BEGINNERS = {"read_beginners", call_read_beginners, CHUDRAVIK_MOST_STACK},
+                        CHAIN_BEGINNERS = {"chain_beginners", call_chain_beginners, CHUDRAVIK_MOST_STACK};
 static size_t nothing;
 
 /* Whether the call gives this number, and takes no more stack than it may. */
@@ -235,6 +248,20 @@ static int explained(void)
     return passed;
 }
 
+/* A board of the beginners, the largest; and with a constant as its last operand. */
+static int for_beginners(void)
+{
+    static const char what[] = "on the largest board";
+    int passed;
+    counts = LARGEST_BOARD;
+    make_circuit();
+    passed = measured(WRITE, what, CHUDRAVIK_ACCEPTED) & measured(READ_BEGINNERS, what, CHUDRAVIK_ACCEPTED) &
+             measured(CHAIN_BEGINNERS, what, CHUDRAVIK_ACCEPTED);
+    table[CHUDRAVIK_TABLE_WORDS(counts.latches, counts.lamps, counts.gates) - 1] = 1;
+    return passed & measured(WRITE, what, CHUDRAVIK_ACCEPTED) & measured(READ_BEGINNERS, what, CHUDRAVIK_BEGINNERS) &
+           measured(CHAIN_BEGINNERS, what, CHUDRAVIK_BEGINNERS);
+}
+
 int main(void)
 {
     int passed;
@@ -246,5 +273,6 @@ int main(void)
     passed &= accepted("on the largest circuit");
     passed &= refused("refused");
     passed &= explained();
+    passed &= for_beginners();
     return passed ? 0 : 1;
 }

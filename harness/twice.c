@@ -6,8 +6,9 @@
 #include <stdlib.h>
 #include <string.h>
 
-const char *const call_names[CALLS] = {"read",  "read_any", "read_binary", "write", "write_binary", "tick",
-                                       "chain", "judge",    "cover",       "why",   "merge"};
+const char *const call_names[CALLS] = {"read",        "read_any", "read_binary", "read_beg", "write", "write_binary", "tick",
+                                       "chain",
+                                       "chain_beg", "judge",    "cover",           "why",   "merge"};
 const char *const role_names[ROLES] = {"text",  "table", "list",    "state",  "switches",
                                        "next",  "lamps", "cubes",   "verdict", "settled",
                                        "why",   "a",     "b",       "merged"};
@@ -134,6 +135,20 @@ static answer simulator_reads_any(const twice *t)
     return (answer){.number = read.number, .counts = read.counts, .variables = read.variables};
 }
 
+static answer library_reads_beginners(const twice *t)
+{
+    chudravik_read_answer read =
+        chudravik_read_beginners(of_library(t, TEXT), bytes_of(t, TEXT), library_table(t), table_words(t));
+    return (answer){.number = read.number, .counts = read.counts};
+}
+
+static answer simulator_reads_beginners(const twice *t)
+{
+    chudravik_read_answer read =
+        simulate_read_beginners(of_simulator(t, TEXT), bytes_of(t, TEXT), simulator_table(t), table_words(t));
+    return (answer){.number = read.number, .counts = read.counts};
+}
+
 static answer library_writes(const twice *t)
 {
     chudravik_write_answer write =
@@ -207,6 +222,20 @@ static answer simulator_chains(const twice *t)
     return (answer){.number = chain.number, .cubes = chain.cubes, .back = chain.back};
 }
 
+static answer library_chains_beginners(const twice *t)
+{
+    chudravik_chain_answer chain = chudravik_chain_beginners(t->counts, library_table(t), table_words(t),
+                                                             of_library(t, CUBES), bytes_of(t, CUBES));
+    return (answer){.number = chain.number, .cubes = chain.cubes, .back = chain.back};
+}
+
+static answer simulator_chains_beginners(const twice *t)
+{
+    chudravik_chain_answer chain = simulate_chain_beginners(t->counts, simulator_table(t), table_words(t),
+                                                            of_simulator(t, CUBES), bytes_of(t, CUBES));
+    return (answer){.number = chain.number, .cubes = chain.cubes, .back = chain.back};
+}
+
 static answer library_judges(const twice *t)
 {
     chudravik_judge_answer judge =
@@ -275,13 +304,14 @@ static call_of *const by_library[CALLS] = {
     [READ] = library_reads,   [READ_ANY] = library_reads_any,         [READ_BINARY] = library_reads_binary,
     [WRITE] = library_writes, [WRITE_BINARY] = library_writes_binary, [TICK] = library_ticks,
     [CHAIN] = library_chains, [JUDGE] = library_judges,               [COVER] = library_covers,
-    [WHY] = library_explains, [MERGE] = library_merges,
+    [WHY] = library_explains, [MERGE] = library_merges, [READ_BEGINNERS] = library_reads_beginners, [CHAIN_BEGINNERS] = library_chains_beginners,
 };
 static call_of *const by_simulator[CALLS] = {
     [READ] = simulator_reads,   [READ_ANY] = simulator_reads_any,         [READ_BINARY] = simulator_reads_binary,
     [WRITE] = simulator_writes, [WRITE_BINARY] = simulator_writes_binary, [TICK] = simulator_ticks,
     [CHAIN] = simulator_chains, [JUDGE] = simulator_judges,               [COVER] = simulator_covers,
     [WHY] = simulator_explains, [MERGE] = simulator_merges,
+    [READ_BEGINNERS] = simulator_reads_beginners, [CHAIN_BEGINNERS] = simulator_chains_beginners,
 };
 
 /* ---- what is compared ---- */

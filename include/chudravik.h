@@ -51,6 +51,7 @@ extern "C" {
 #define CHUDRAVIK_MOST_INTERVAL 1000     /* w */
 #define CHUDRAVIK_MOST_CUBE_BYTES 65536  /* the cube buffer */
 #define CHUDRAVIK_MOST_FIELDS 512        /* of the records of chudravik_merge */
+#define CHUDRAVIK_BEGINNERS_CUBE_BYTES 19683 /* the least cube buffer of chudravik_chain_beginners */
 #define CHUDRAVIK_MOST_STACK 3072
 #define CHUDRAVIK_MOST_ANY_STACK 98304   /* chudravik_read_any keeps all lines until it can order them */
 #define CHUDRAVIK_WHY_STACK 393216       /* chudravik_why goes down from gate to gate: on the deepest circuit */
@@ -104,7 +105,7 @@ extern "C" {
 #define CHUDRAVIK_TOO_SHORT 10          /* a lent table, record or result too short */
 #define CHUDRAVIK_TABLE 11              /* a lent table that breaks 6 or 7, or has a reset above 2 */
 #define CHUDRAVIK_INTERVAL 12           /* w above 1,000 */
-#define CHUDRAVIK_CUBE_BUFFER 13        /* cube buffer under one record or over 65,536 bytes */
+#define CHUDRAVIK_CUBE_BUFFER 13        /* cube buffer under one record (a beginners' one: under 19,683) or over 65,536 bytes */
 #define CHUDRAVIK_RECORD 14             /* a pair 11, or a leftover bit set, in a given record */
 #define CHUDRAVIK_NO_ROOM 15            /* no room for the next cube */
 #define CHUDRAVIK_NO_LAMPS 16           /* no lamps, so nothing to judge */
@@ -116,6 +117,7 @@ extern "C" {
 #define CHUDRAVIK_LOOP 22               /* gates in a loop */
 #define CHUDRAVIK_NO_SUCH_LAMP 23       /* a lamp's number that is not below the count of lamps */
 #define CHUDRAVIK_LAMP_UNKNOWN 24       /* the lamp's value is X there, so no latch forces it */
+#define CHUDRAVIK_BEGINNERS 25          /* a board outside the beginners' rules (chudravik_read_beginners) */
 #define CHUDRAVIK_DIFFERENCE 26         /* a difference cut off, longer than two bytes, or with a needless zero group */
 
 /* Where several apply, the first in the order named at the call is given. A refusal answers zeros beside its number and
@@ -152,6 +154,9 @@ extern "C" {
  * 22: cut the loop, or put a latch into it
  * 23: name a lamp below the count of lamps
  * 24: ask of a state in which the lamp's value is known
+ * 25: draw a smaller board without constants, and feed each gate by two different variables; or read it with chudravik_read
+ *     and run it with chudravik_chain
+ * 26: save the file again with an AIGER writer; it is cut off or damaged
  */
 
 /* ---- the calls ---- */
@@ -264,6 +269,14 @@ chudravik_read_any_answer chudravik_read_any(const uint8_t *text, size_t text_by
 chudravik_read_answer chudravik_read_binary(const uint8_t *binary, size_t binary_bytes, uint16_t *table,
                                             size_t table_words);
 
+/* Reads a beginners' board: as chudravik_read, and then 25 for a board outside the beginners' rules. It has at most 4
+ * inputs, 8 latches, 8 lamps and 32 gates; no next literal, lamp or operand is 0 or 1, and no gate has two operands of one
+ * variable (4 and 4, or 4 and 5). A latch without a start value is allowed.
+ * A text that is accepted here is accepted by chudravik_read, with the same counts and table.
+ * Refusals: as chudravik_read, each by the text as it stands, then 25, which changes no word. */
+chudravik_read_answer chudravik_read_beginners(const uint8_t *text, size_t text_bytes, uint16_t *table,
+                                               size_t table_words);
+
 /* Writes the text of a circuit to the front of a buffer. Reading it gives the same counts and words back.
  * Refusals: 3, 10 for the table, 11, 10 where the buffer is shorter than the text. CHUDRAVIK_MOST_WRITTEN bytes are
  * always enough. Bytes beyond the text stay as they were. */
@@ -298,6 +311,14 @@ uint32_t chudravik_tick(chudravik_counts counts, const uint16_t *table, size_t t
  * back is 0. Bytes after the stored cubes stay as they were. */
 chudravik_chain_answer chudravik_chain(chudravik_counts counts, const uint16_t *table, size_t table_words, size_t w,
                                        uint8_t *cubes, size_t cubes_bytes);
+
+/* The chain of a beginners' board: as chudravik_chain with w = 0. It always closes: where nothing below refuses, the number
+ * is 0 and never 15, and there are at most 3 to the power of latches cubes. chudravik_judge accepts it.
+ * Refusals: 3, 16, 10 for the table, 11, 25 (the rules of chudravik_read_beginners), 13 for a buffer under
+ * CHUDRAVIK_BEGINNERS_CUBE_BYTES or over 65,536 bytes, however many latches there are. Bytes after the stored cubes stay as
+ * they were. */
+chudravik_chain_answer chudravik_chain_beginners(chudravik_counts counts, const uint16_t *table, size_t table_words,
+                                                 uint8_t *cubes, size_t cubes_bytes);
 
 /* Judges a closed chain of cubes, wherever it comes from: n of them, cube k from byte k x CHUDRAVIK_RECORD_BYTES(latches) on,
  * in a buffer of any length. It is one where j is below n, cube 0 is the resets, the next state of each cube but the last,

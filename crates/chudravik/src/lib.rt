@@ -14,6 +14,8 @@ ghost use Rattle.cubes.specs.Chain.{Chained};
 ghost use Rattle.cubes.specs.Judge.{Judged};
 ghost use Rattle.cubes.specs.Promise.{Closing, Promises};
 ghost use Rattle.cubes.specs.Exact.{Singles};
+ghost use Rattle.beginners.specs.Calls.{ReadingBeginners, ChainedBeginners};
+ghost use Rattle.beginners.specs.Promise.{AlsoRead, AlwaysCloses};
 ghost use Rattle.sent.specs.Call.{Sent};
 ghost use Rattle.sent.specs.Promise.{Keeps};
 ghost use Rattle.asked.specs.Call.{Explained};
@@ -44,6 +46,13 @@ pub extern "C" fn chudravik_read_binary(bytes: &[u8], table: &mut [u16]) -> Read
     ensures { λ r. ⌜ BinaryReading (now (bytes .entry)) (now (table .entry)) (r .number) (r .counts) (now (table .exit)) ⌝ }
 {
     binary_reader::read_binary(bytes, table)
+}
+
+#[no_mangle]
+pub extern "C" fn chudravik_read_beginners(text: &[u8], table: &mut [u16]) -> ReadAnswer
+    ensures { λ r. ⌜ ReadingBeginners (now (text .entry)) (now (table .entry)) (r .number) (r .counts) (now (table .exit)) × AlsoRead (now (text .entry)) (now (table .entry)) (r .number) (r .counts) (now (table .exit)) ⌝ }
+{
+    beginner_board::read_beginners(text, table)
 }
 
 #[no_mangle]
@@ -88,6 +97,17 @@ pub extern "C" fn chudravik_chain(
     ensures { λ r. ⌜ Chained (record { counts = counts; table = now (table .entry); w = w; cubes = now (cubes .entry) }) r (now (cubes .exit)) × Closing (record { counts = counts; table = now (table .entry); w = w; cubes = now (cubes .entry) }) r × Singles (record { counts = counts; table = now (table .entry); w = w; cubes = now (cubes .entry) }) r (now (cubes .exit)) ⌝ }
 {
     chained::chain(counts, table, w, cubes)
+}
+
+#[no_mangle]
+pub extern "C" fn chudravik_chain_beginners(
+    counts: Counts,
+    table: &[u16],
+    cubes: &mut [u8],
+) -> ChainAnswer
+    ensures { λ r. ⌜ ChainedBeginners (record { counts = counts; table = now (table .entry); cubes = now (cubes .entry) }) r (now (cubes .exit)) × AlwaysCloses (record { counts = counts; table = now (table .entry); cubes = now (cubes .entry) }) r (now (cubes .exit)) ⌝ }
+{
+    beginner_board::chain_beginners(counts, table, cubes)
 }
 
 #[no_mangle]

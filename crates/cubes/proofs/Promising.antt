@@ -66,7 +66,7 @@ module _ (g : JudgeGiven) (r : JudgeAnswer) (verdict′ settled′ : List ℕ) (
   opens = record {
     exact = λ done no-x e. chain-exact (accepted-is-chain done) (whole no-x) e;
     opens = λ done no-x none e i h is.
-      chain-opens (accepted-is-chain done) (whole no-x) e none i (rw (literals-counted (g .counts) (g .table)) h) (rw (verdict-is done) at is);
+        chain-opens (accepted-is-chain done) (whole no-x) e none i (rw (literals-counted (g .counts) (g .table)) h) (rw (verdict-is done) at is);
   }
 
   pub promises : Promises g verdict′ settled′ r

@@ -29,7 +29,7 @@ module _ (g : ChainGiven) (r : ChainAnswer) (cubes : List ℕ) (chained : Chaine
   unfolding outcomeIn
   own-exact done plain certain e =
       let exact : Exact (cubeAt (boardIn g) (g .w)) (r .cubes) e =
-        chain-exact (run-chain (boardIn g) (g .w) (roomIn (g .counts) (g .cubes)) _ _ (outcome-is g r cubes chained done)) (λ k h. ap (λ (w : ℕ). knownFields (cubeAt (boardIn g) w k)) plain ∙ plain-whole (boardIn g) certain e k) e in
+      chain-exact (run-chain (boardIn g) (g .w) (roomIn (g .counts) (g .cubes)) _ _ (outcome-is g r cubes chained done)) (λ k h. ap (λ (w : ℕ). knownFields (cubeAt (boardIn g) w k)) plain ∙ plain-whole (boardIn g) certain e k) e in
       record {
         occurs = λ k h. sym (cube-is g r cubes chained done k h) ∙ exact .occurs k h;
         stored = λ t. let s = exact .stored t in (s .0, s .1, sym (cube-is g r cubes chained done (s .0) (s .1)) ∙ s .2);

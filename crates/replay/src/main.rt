@@ -4,10 +4,12 @@
 //   read WORDS BYTES TEXT                                      a table of WORDS words; the text, `x` behind it up to BYTES
 //   any TABLEWORDS LISTWORDS BYTES TEXT                        a table and a list of so many words; the text as above
 //   readbinary WORDS BYTES TEXT                                as `read`, for the binary form
+//   readbeginners WORDS BYTES TEXT                             as read
 //   write I L O A WORDS w.. BYTES                              the table; a text buffer of BYTES bytes
 //   writebinary I L O A WORDS w.. BYTES                        as `write`, for the binary form
 //   tick I L O A WORDS w.. STATE b.. SWITCHES b.. NEXT LAMPS   the table, two records; the lengths of the results
 //   chain I L O A WORDS w.. W CUBES                            the table; the interval; the length of the cubes' buffer
+//   chainbeginners I L O A WORDS w.. CUBES                     the table; the length of the cubes' buffer
 //   judge I L O A WORDS w.. CUBES b.. N J VERDICT SETTLED      the table, the cubes, n, j; the lengths of the results
 //   cover I L O A WORDS w.. CUBES b.. N VERDICT                the table, the cubes, their number; the result's length
 //   why I L O A WORDS w.. STATE b.. LAMP WHY                   the table, the state, the lamp's number; the result's length
@@ -188,6 +190,42 @@ fn any_vector(line: &[u8]) {
         return;
     }
     any_lent(&text, bytes.value, table_words.value, list_words.value);
+}
+
+// ---- readbeginners
+
+fn show_read_beginners(text: &[u8], table: &mut [u16]) {
+    let answer = beginner_board::read_beginners(text, table);
+    say_number(b"readbeginners number ", answer.number as usize);
+    let counts = answer.counts;
+    say_number(b" I ", counts.inputs);
+    say_number(b" L ", counts.latches);
+    say_number(b" O ", counts.lamps);
+    say_number(b" A ", counts.gates);
+    say_words(b"; table", table);
+    say(b"\n");
+}
+
+fn read_beginners_lent(text: &[u8], bytes: usize, words: usize) {
+    let mut table = [UNTOUCHED_WORD; MOST_WORDS];
+    let given = bytes_within(bytes, text);
+    let lent = words_within(words, &table);
+    if given < bytes || lent < words {
+        too_large();
+        return;
+    }
+    show_read_beginners(&text[..given], &mut table[..lent]);
+}
+
+fn read_beginners_vector(line: &[u8]) {
+    let words = vector::number(line, 14);
+    let bytes = vector::next(line, words);
+    let mut text = [b'x'; MOST_BYTES];
+    if !vector::text(line, bytes, &mut text) {
+        not_a_vector();
+        return;
+    }
+    read_beginners_lent(&text, bytes.value, words.value);
 }
 
 // ---- write
@@ -397,6 +435,40 @@ fn chain_vector(line: &[u8]) {
     }
     let counts = circuit.counts;
     chain_given(counts, &table, circuit.words, w.value, cubes.value);
+}
+
+// ---- chainbeginners
+
+fn show_chain_beginners(counts: Counts, table: &[u16], cubes: &mut [u8]) {
+    let answer = beginner_board::chain_beginners(counts, table, cubes);
+    say_number(b"chainbeginners number ", answer.number as usize);
+    say_number(b" n ", answer.cubes);
+    say_number(b" j ", answer.back);
+    say_bytes(b"; cubes", cubes);
+    say(b"\n");
+}
+
+fn chain_beginners_given(counts: Counts, table: &[u16], words: usize, lent: usize) {
+    let mut cubes = [UNTOUCHED; MOST_BYTES];
+    let given = words_within(words, table);
+    let cubes_bytes = bytes_within(lent, &cubes);
+    if given < words || cubes_bytes < lent {
+        too_large();
+        return;
+    }
+    show_chain_beginners(counts, &table[..given], &mut cubes[..cubes_bytes]);
+}
+
+fn chain_beginners_vector(line: &[u8]) {
+    let mut table = [0u16; MOST_WORDS];
+    let circuit = circuit_at(line, 15, &mut table);
+    let cubes = vector::next(line, circuit.behind);
+    if !vector::ends(line, cubes) {
+        not_a_vector();
+        return;
+    }
+    let counts = circuit.counts;
+    chain_beginners_given(counts, &table, circuit.words, cubes.value);
 }
 
 // ---- judge
@@ -694,6 +766,8 @@ fn answer(line: &[u8]) {
         read_binary_vector(line);
     } else if vector::opens(line, b"any ") {
         any_vector(line);
+    } else if vector::opens(line, b"readbeginners ") {
+        read_beginners_vector(line);
     } else if vector::opens(line, b"write ") {
         write_vector(line);
     } else if vector::opens(line, b"writebinary ") {
@@ -702,6 +776,8 @@ fn answer(line: &[u8]) {
         tick_vector(line);
     } else if vector::opens(line, b"chain ") {
         chain_vector(line);
+    } else if vector::opens(line, b"chainbeginners ") {
+        chain_beginners_vector(line);
     } else if vector::opens(line, b"judge ") {
         judge_vector(line);
     } else if vector::opens(line, b"cover ") {
