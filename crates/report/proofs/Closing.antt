@@ -22,7 +22,8 @@ use Rattle.cubes.specs.Promise.{mostCubes}
 use Rattle.cubes.proofs.Buffered.{latches-counted}
 use Rattle.cubes.proofs.Closes.{ClosesWithin, run-closes}
 use Rattle.rows.specs.Rows.{item}
-use Rattle.report.specs.Report.{closing, refusing, closedReport, ended, reportOf}
+use Rattle.report.specs.Report.{closing, closedReport, ended, reportOf}
+use Rattle.reporting.specs.Reporting.{refusing}
 use Rattle.report.proofs.Lamps.{without-lamp, with-lamp}
 
 -- the buffer has room for the most cubes that a run of so many latches takes

@@ -12,16 +12,17 @@ use Rattle.text.specs.Outcome.{accepted}
 use Rattle.text.specs.Text.{Content, readText}
 use Rattle.cubes.specs.Buffer.{cubeBytes}
 use Rattle.cubes.specs.Run.{run}
-use Rattle.report.specs.Report.{refusing, ended, runReport, reportOf}
-use Rattle.report.specs.ReportInCode.{reported}
+use Rattle.reporting.specs.Reporting.{refusing, ofRun, ofText}
+use Rattle.reporting.specs.ReportingInCode.{ofOutcome}
+use Rattle.report.specs.Report.{ended, reportOf}
 
 module _ (text : List ℕ) (t : Content) (read : readText text ≡ accepted t) where
   pub without-lamp : t .counts .lamps ≡ 0 → reportOf text ≡ refusing 16
-  unfolding reportOf runReport
+  unfolding reportOf ofText ofRun
   without-lamp none =
       let is = no-lamp (t .counts) none in
-      ap reported read ∙ sym (refused-old (refusal (lampTests (t .counts))) _ _ (λ z. omega arith)) ∙ ap refusing (sym is)
+      ap (ofOutcome ended) read ∙ sym (refused-old (refusal (lampTests (t .counts))) _ _ (λ z. omega arith)) ∙ ap refusing (sym is)
 
   pub with-lamp : 1 ≤ t .counts .lamps → let c : Circuit = circuitOf (t .counts) (t .words) in reportOf text ≡ ended c (run c 16 (65536 / cubeBytes (t .counts .latches)))
-  unfolding reportOf runReport
-  with-lamp some = ap reported read ∙ sym (accepted-new (refusal (lampTests (t .counts))) _ _ (sym (some-lamp (t .counts) some)))
+  unfolding reportOf ofText ofRun
+  with-lamp some = ap (ofOutcome ended) read ∙ sym (accepted-new (refusal (lampTests (t .counts))) _ _ (sym (some-lamp (t .counts) some)))

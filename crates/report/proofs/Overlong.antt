@@ -5,9 +5,10 @@ use Prim.Native.Nat.{ℕ, _<_}
 use native.Mathlib.Omega.{arith}
 use lib.ListN.{length, length-append}
 use Rattle.text.proofs.Steps.{text-long}
-use Rattle.report.specs.ReportInCode.{reported}
-use Rattle.report.specs.Report.{reportOf}
+use Rattle.reporting.specs.Reporting.{ofText}
+use Rattle.reporting.specs.ReportingInCode.{ofOutcome}
+use Rattle.report.specs.Report.{ended, reportOf}
 
 pub overlong : (text rest : List ℕ) → 60000 < length text → reportOf (text ++ rest) ≡ reportOf text
-unfolding reportOf
-overlong text rest long = ap reported (text-long (text ++ rest) (rw length-append (omega arith)) ∙ sym (text-long text long))
+unfolding reportOf ofText
+overlong text rest long = ap (ofOutcome ended) (text-long (text ++ rest) (rw length-append (omega arith)) ∙ sym (text-long text long))

@@ -1,3 +1,2 @@
 pub mod Report
 pub mod Bench
-pub mod ReportInCode

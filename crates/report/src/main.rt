@@ -1,7 +1,6 @@
 // The report program (specification, 6): a circuit's text on standard input, the report on standard output.
 use circuit::Counts;
 use libc::STDERR_FILENO;
-use libc::STDIN_FILENO;
 use libc::STDOUT_FILENO;
 use rows::Row;
 ghost use mathlib.Core.Path.{_≡_};
@@ -14,7 +13,8 @@ ghost use Rattle.circuit.specs.Table.{circuitTests};
 ghost use Rattle.putting.specs.PutInCode.{Put};
 ghost use Rattle.rows.specs.declared.Row.{Row};
 ghost use Rattle.rows.specs.Rows.{rows};
-ghost use Rattle.report.specs.Report.{closing, refusing, runReport, Reported};
+ghost use Rattle.report.specs.Report.{closing, ended, Reported};
+ghost use Rattle.reporting.specs.Reporting.{ofRun};
 
 // Takes w = 16 and a cube buffer of 65,536 bytes.
 const INTERVAL: usize = 16;
@@ -30,12 +30,6 @@ const REPORT_BYTES: usize = 20000;
 // One byte more than the longest text that is read.
 const DECIDING_BYTES: usize = 60001;
 
-// Of what follows. Any file that is sent by mistake has less, most likely; and so much takes an instant.
-const MOST_SKIPPED: usize = 16777216;
-
-// What `io::buffer` holds.
-const PIECE: usize = 4096;
-
 // One line on closure with n, j, s.
 fn put_closing(out: &mut [u8], n: usize, j: usize, s: usize) -> usize
     requires { ⌜ 100 ≤ length (now out) ⌝ }
@@ -44,15 +38,6 @@ fn put_closing(out: &mut [u8], n: usize, j: usize, s: usize) -> usize
     let back = rows::put_item(out, 0, b"cubes ", n);
     let settled = rows::put_item(out, back, b" back ", j);
     let end = rows::put_item(out, settled, b" settled ", s);
-    rows::put_bytes(out, end, b"\n")
-}
-
-// On a refusal its only line is `refused` and the number.
-fn put_refusal(out: &mut [u8], number: u32) -> usize
-    requires { ⌜ 100 ≤ length (now out) ⌝ }
-    ensures { λ r. ⌜ Put (now (out .entry)) 0 (refusing number) (now (out .exit)) r × (r ≤ length (now (out .entry))) ⌝ }
-{
-    let end = rows::put_item(out, 0, b"refused ", number as usize);
     rows::put_bytes(out, end, b"\n")
 }
 
@@ -82,12 +67,12 @@ fn put_closed(
 // The report on a circuit that was read. What the chain leaves is never refused by the judge.
 fn report_run(counts: Counts, table: &[u16], out: &mut [u8; REPORT_BYTES]) -> usize
     requires { ⌜ 0 ≡ refusal (circuitTests counts (now table)) ⌝ }
-    ensures { λ r. ⌜ Put (now (out .entry)) 0 (runReport (record { counts = counts; words = now (table .entry) })) (now (out .exit)) r × (r ≤ length (now (out .entry))) ⌝ }
+    ensures { λ r. ⌜ Put (now (out .entry)) 0 (ofRun ended (record { counts = counts; words = now (table .entry) })) (now (out .exit)) r × (r ≤ length (now (out .entry))) ⌝ }
 {
     let mut cubes = [0u8; CUBE_BYTES];
     let chain = chained::chain(counts, table, INTERVAL, &mut cubes);
     if chain.number != 0 {
-        return put_refusal(out, chain.number);
+        return reporting::put_refusal(out, chain.number);
     }
     let mut verdict = [0u8; 16];
     let mut settled = [0u8; 128];
@@ -109,71 +94,10 @@ fn report(text: &[u8], out: &mut [u8; REPORT_BYTES]) -> usize
     let mut table = [0u16; TABLE_WORDS];
     let read = reader::read(text, &mut table);
     if read.number != 0 {
-        return put_refusal(out, read.number);
+        return reporting::put_refusal(out, read.number);
     }
     let counts = read.counts;
     report_run(counts, &table, out)
-}
-
-// What was taken of standard input; a read that failed is no end of the text.
-struct Taken {
-    bytes: usize,
-    failed: bool,
-}
-
-// One read behind the bytes that are there.
-fn take_some(text: &mut [u8], at: usize) -> Taken
-    requires { ⌜ at ≤ length (now text) ⌝ }
-    ensures { λ r. ⌜ at + r .bytes ≤ length (now (text .entry)) ⌝ }
-{
-    let room = &mut text[at..];
-    let got = libc::read(STDIN_FILENO, room);
-    Taken {
-        bytes: io::count(got, room),
-        failed: got < 0,
-    }
-}
-
-// The text to its end, or as much of it as the buffer holds.
-fn take_text(text: &mut [u8]) -> Taken
-    ensures { λ r. ⌜ r .bytes ≤ length (now (text .entry)) ⌝ }
-{
-    let mut bytes = 0;
-    while bytes < text.len() {
-        let more = take_some(text, bytes);
-        if more.bytes == 0 {
-            return Taken {
-                bytes,
-                failed: more.failed,
-            };
-        }
-        bytes += more.bytes;
-    }
-    Taken {
-        bytes,
-        failed: false,
-    }
-}
-
-// How many bytes a read gives of what is left; none at its end, or where it fails.
-fn skip_some() -> usize
-    ensures { λ r. ⌜ r ≤ 4096 ⌝ }
-{
-    let mut piece = io::buffer();
-    let got = libc::read(STDIN_FILENO, &mut piece);
-    io::count(got, &piece)
-}
-
-// What is left, so that whoever sends it can go on to its end; at most MOST_SKIPPED bytes of it, since it may have no end.
-fn skip_rest() {
-    let mut left = MOST_SKIPPED;
-    while left >= PIECE {
-        let got = skip_some();
-        if got == 0 {
-            return;
-        }
-        left -= got;
-    }
 }
 
 fn complain(why: &[u8]) {
@@ -192,7 +116,7 @@ fn print_report(text: &[u8]) {
 // A text that fills the buffer is refused whatever follows: that is printed before anything more is waited for.
 fn main() {
     let mut text = [0u8; DECIDING_BYTES];
-    let taken = take_text(&mut text);
+    let taken = reporting::take_text(&mut text);
     if taken.failed {
         complain(b"report: standard input was not read to its end\n");
         return;
@@ -200,6 +124,6 @@ fn main() {
     let bytes = taken.bytes;
     print_report(&text[..bytes]);
     if bytes == DECIDING_BYTES {
-        skip_rest();
+        reporting::skip_rest();
     }
 }

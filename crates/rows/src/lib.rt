@@ -46,7 +46,7 @@ pub fn put_item(out: &mut [u8], at: usize, name: &[u8], n: usize) -> usize
 }
 
 // What is said of a field: of 0, of 1, and of X.
-fn put_said(out: &mut [u8], at: usize, field: u8, off: &[u8], on: &[u8], either: &[u8]) -> usize
+pub fn put_said(out: &mut [u8], at: usize, field: u8, off: &[u8], on: &[u8], either: &[u8]) -> usize
     requires { ⌜ (at + length (now off) ≤ length (now out)) × (at + length (now on) ≤ length (now out)) × (at + length (now either) ≤ length (now out)) ⌝ }
     ensures { λ r. ⌜ Put (now (out .entry)) at (said (now (off .entry)) (now (on .entry)) (now (either .entry)) (decode field)) (now (out .exit)) r ⌝ }
 {
@@ -60,7 +60,7 @@ fn put_said(out: &mut [u8], at: usize, field: u8, off: &[u8], on: &[u8], either:
 }
 
 // Each lamp, numbered from 0, with never, always or open; then each latch, numbered from 0, with its settled value, 0 or 1, or `-`: the line of number i.
-fn put_row(out: &mut [u8], at: usize, row: Row, i: usize, field: u8) -> usize
+pub fn put_row(out: &mut [u8], at: usize, row: Row, i: usize, field: u8) -> usize
     requires { ⌜ at + 34 ≤ length (now out) ⌝ }
     ensures { λ r. ⌜ Put (now (out .entry)) at (rowText row i (decode field)) (now (out .exit)) r × (r ≤ at + 34) ⌝ }
 {

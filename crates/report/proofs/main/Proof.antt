@@ -6,8 +6,8 @@ use Rattle.report.proofs.main.Statement.{statement}
 use Rattle.report.proofs.main.Tie as tie
 use Rattle.report.proofs.complain.Reads as complain-reads
 use Rattle.report.proofs.print_report.Reads as print-report-reads
-use Rattle.report.proofs.skip_rest.Reads as skip-rest-reads
-use Rattle.report.proofs.take_text.Reads as take-text-reads
+use Rattle.reporting.proofs.skip_rest.Reads as skip-rest-reads
+use Rattle.reporting.proofs.take_text.Reads as take-text-reads
 
 array-share-prefix-text : tie.Need-array-share-prefix-text
 array-share-prefix-text c = search needs

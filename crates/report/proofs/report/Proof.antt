@@ -1,25 +1,29 @@
 -- `report::report` meets its contract: what the reader refuses, and the report on what it read. Assumes nothing.
 use native.Mathlib.Omega.{arith}
-use Rattle.report.proofs.Reporting.{put-report, read-refused, read-accepted, accepted-table, run-reported}
+use Rattle.reporting.proofs.Reading.{read-refused, read-accepted, accepted-table, run-read}
+use Rattle.report.specs.Report.{ended, reportOf}
+use Rattle.report.proofs.Reporting.{put-report}
 use borrow.Author.Needs.{needs}
 use Rattle.report.proofs.report.Statement.{statement}
 use Rattle.report.proofs.report.Tie as tie
-use Rattle.report.proofs.put_refusal.Reads as put-refusal-reads
+use Rattle.reporting.proofs.put_refusal.Reads as put-refusal-reads
 use Rattle.reader.proofs.read.Reads as read-reads
 
 returns : tie.Need-returns
+unfolding reportOf
 returns c =
     let asked = c .before .before in
     let read = asked .before .before .before in
-    put-report _ (read-refused _ _ (omega arith) (read .read .ensures) (asked .if1 .taken)) (c .put-refusal .ensures)
+    put-report _ (read-refused _ _ (omega arith) (read .read .ensures) ended (asked .if1 .taken)) (c .put-refusal .ensures)
 
 report-run-requires : tie.Need-report-run-requires
 report-run-requires c κs = accepted-table (read-accepted _ _ (omega arith) (c .before .before .before .before .before .before .read .ensures) (c .before .before .before .if1 .left))
 
 returns-2 : tie.Need-returns-2
+unfolding reportOf
 returns-2 c =
     let put = c .report-run .ensures in
-    put-report _ (run-reported (read-accepted _ _ (omega arith) (c .before .before .before .before .before .before .before .read .ensures) (c .before .before .before .before .if1 .left))) put
+    put-report _ (run-read (read-accepted _ _ (omega arith) (c .before .before .before .before .before .before .before .read .ensures) (c .before .before .before .before .if1 .left)) ended) put
 
 pub report-spec : {M : Type 1} → statement M
 report-spec =

@@ -4,19 +4,23 @@ use Prim.Native.Nat.{ℕ}
 use native.Mathlib.Omega.{arith}
 use lib.ListN.{length-replicate}
 use Rattle.circuit.proofs.Legality.{legal}
-use Rattle.report.proofs.Reporting.{put-is, chain-refused, run-closed}
+use Rattle.reporting.proofs.Reading.{put-is}
+use Rattle.reporting.proofs.Running.{chain-refused}
+use Rattle.report.specs.Report.{ended}
+use Rattle.report.proofs.Reporting.{run-closed}
 use borrow.Author.Needs.{needs}
 use Rattle.report.proofs.report_run.Statement.{statement}
 use Rattle.report.proofs.report_run.Tie as tie
 use Rattle.report.proofs.put_closed.Reads as put-closed-reads
-use Rattle.report.proofs.put_refusal.Reads as put-refusal-reads
+use Rattle.reporting.proofs.put_refusal.Reads as put-refusal-reads
 use Rattle.chained.proofs.chain.Reads as chain-reads
 use Rattle.judged.proofs.judge.Reads as judge-reads
 
 returns : tie.Need-returns
+unfolding ended
 returns c =
     let start = c .before .before .before .before .before .before .before .before in
-    put-is (chain-refused _ _ (start .pre) _ (length-replicate {A = ℕ} 65536 0) (c .before .before .before .before .before .chain .ensures .0) (c .before .before .if1 .taken)) (c .put-refusal .ensures)
+    put-is (chain-refused _ _ (start .pre) _ (length-replicate {A = ℕ} 65536 0) (c .before .before .before .before .before .chain .ensures .0) ended refl (c .before .before .if1 .taken)) (c .put-refusal .ensures)
 
 slice-aggregate-put-closed : tie.Need-slice-aggregate-put-closed
 slice-aggregate-put-closed c = search needs

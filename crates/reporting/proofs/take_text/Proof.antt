@@ -1,11 +1,11 @@
--- `report::take_text` stays inside its buffer and ends: each read that gives something leaves less room. Assumes nothing.
+-- `reporting::take_text` stays inside its buffer and ends: each read that gives something leaves less room. Assumes nothing.
 use native.Mathlib.Omega.{arith}
 use Prim.Native.Nat.{_-_, _≤_}
 use lib.ListN.{length}
 use mathlib.Core.Path.{_≡_, refl}
-use Rattle.report.proofs.take_text.Statement.{statement}
-use Rattle.report.proofs.take_text.Tie as tie
-use Rattle.report.proofs.take_some.Reads as take-some-reads
+use Rattle.reporting.proofs.take_text.Statement.{statement}
+use Rattle.reporting.proofs.take_text.Tie as tie
+use Rattle.reporting.proofs.take_some.Reads as take-some-reads
 
 abbrev Inv-loop : tie.InvT-loop
 Inv-loop text₀ bytes₀ text bytes = (bytes ≤ length text) × (length text ≡ length text₀)

@@ -1,8 +1,8 @@
--- `report::skip_rest` ends: each piece leaves less to take. Assumes nothing.
+-- `reporting::skip_rest` ends: each piece leaves less to take. Assumes nothing.
 use native.Mathlib.Omega.{arith}
-use Rattle.report.proofs.skip_rest.Statement.{statement}
-use Rattle.report.proofs.skip_rest.Tie as tie
-use Rattle.report.proofs.skip_some.Reads as skip-some-reads
+use Rattle.reporting.proofs.skip_rest.Statement.{statement}
+use Rattle.reporting.proofs.skip_rest.Tie as tie
+use Rattle.reporting.proofs.skip_some.Reads as skip-some-reads
 
 abbrev Inv-loop : tie.InvT-loop
 Inv-loop left₀ left = Unit {0}

@@ -1,11 +1,11 @@
--- `report::put_refusal` meets its contract: the number with its name, and the line's end. Assumes nothing.
+-- `reporting::put_refusal` meets its contract: the number with its name, and the line's end. Assumes nothing.
 use native.Mathlib.Omega.{arith}
 use Rattle.text.specs.Bench.{bytes}
 use Rattle.putting.proofs.Putting.{put-then}
-use Rattle.report.specs.Report.{refusing}
+use Rattle.reporting.specs.Reporting.{refusing}
 use borrow.Author.Needs.{needs}
-use Rattle.report.proofs.put_refusal.Statement.{statement}
-use Rattle.report.proofs.put_refusal.Tie as tie
+use Rattle.reporting.proofs.put_refusal.Statement.{statement}
+use Rattle.reporting.proofs.put_refusal.Tie as tie
 use Rattle.rows.proofs.put_bytes.Reads as put-bytes-reads
 use Rattle.rows.proofs.put_item.Reads as put-item-reads
 
