@@ -1,0 +1,3 @@
+pub mod WhyReport
+pub mod WhyReportInCode
+pub mod Examples

@@ -1,0 +1,46 @@
+-- Why a lamp stays dark or lit (specification, 6): what is printed for a lamp's number and the bytes on standard input. Assumes nothing.
+use mathlib.Core.Path.{_≡_}
+use mathlib.Core.Bool.{cond}
+use mathlib.Core.List.{List, [], _++_}
+use Prim.Native.Nat.{ℕ, _≤_}
+use lib.Dec.{ltb}
+use lib.ListN.{length, getD}
+use Rattle.three.specs.Lists.{over}
+use Rattle.three.specs.Value.{Three, unknown}
+use Rattle.three.specs.Cube.{Cube}
+use Rattle.circuit.specs.Circuit.{Circuit}
+use Rattle.cubes.specs.Run.{cubeAt, Ending, stops, full, verdict}
+use Rattle.asked.specs.Follow.{forcing}
+use Rattle.asked.specs.Call.{lampLiteral}
+use Rattle.rows.specs.declared.Row.{Row}
+use Rattle.rows.specs.Rows.{row}
+use Rattle.reasons.specs.Reasons.{isKnown, toldFrom}
+use Rattle.reporting.specs.Reporting.{refusing, ofText}
+
+module _ (lamp : ℕ) where
+  -- the explanation in a cube: what `why` answers for its state
+  unfoldable pub explanation : Circuit → Cube → Cube
+  explanation c cube = forcing c cube (lampLiteral c lamp)
+
+  -- the lamp's line, as in the report; and where it is never or always, why it is so in each of n cubes
+  unfoldable pub explained : Circuit → (ℕ → Cube) → ℕ → List ℕ
+  explained c cubes n =
+      let v : Three = getD (verdict c cubes n) lamp unknown in
+      row Row.Lamp lamp v ++ cond (isKnown v) (toldFrom (λ k. explanation c (cubes k)) n 0) []
+
+  -- a circuit's run with w = 16; 23 where it has no such lamp, after the refusals of the run
+  unfoldable pub ended : Circuit → Ending → List ℕ
+  ended c e = elim e [ stops n j ↦ cond (ltb lamp (length (c .lamps))) (explained c (cubeAt c 16) n) (refusing 23) | full ↦ refusing 15 ]
+
+  -- what is printed
+  unfoldable pub whyReportOf : List ℕ → List ℕ
+  whyReportOf text = ofText ended text
+
+-- It is printed piece by piece: each piece, and what is left after it, make what was left before.
+-- A piece in a buffer at exit, how many bytes it has, and that these are they; the bytes beyond stay.
+pub record Piece (before after buffer : List ℕ) (bytes : ℕ) (buffer′ : List ℕ) : Type 0 where
+  pub piece : List ℕ
+  pub returns : bytes ≡ length piece
+  pub fills : buffer′ ≡ over piece buffer
+  pub fits : bytes ≤ length buffer′
+  pub left : before ≡ piece ++ after
