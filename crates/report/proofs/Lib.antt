@@ -1,5 +1,4 @@
 pub mod Lamps
 pub mod Reporting
 pub mod Determined
-pub mod Overlong
 pub mod Closing
