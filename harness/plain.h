@@ -1,4 +1,4 @@
-/* The five calls of chudravik.h once more, in plain C and unproved: what the benchmark measures the library against.
+/* The calls of chudravik.h once more, in plain C and unproved: what the benchmark measures the library against.
  * Each does what its namesake does, by the same algorithm over the same data. */
 #ifndef PLAIN_H
 #define PLAIN_H

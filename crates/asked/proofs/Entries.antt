@@ -9,7 +9,7 @@ use Rattle.three.specs.Value.{Three, unknown, low, both, ternary}
 use Rattle.three.specs.Cube.{Cube}
 use Rattle.three.proofs.Lists.{getD-any}
 use Rattle.circuit.specs.Circuit.{Circuit, value, settle}
-use Rattle.circuit.proofs.Fixed.{Falling, pass-front, pass-at}
+use Rattle.circuit.proofs.Fixed.{Falling, entry-front, pass-at}
 use Rattle.cubes.specs.Run.{switchesUnknown}
 use Rattle.asked.specs.Follow.{gateAt, latchVariable, firstGate, valuesIn}
 
@@ -23,7 +23,7 @@ module _ (c : Circuit) (state : Cube) (sized : length state ≡ length (c .latch
   -- what stands before the gates
   front-entry : (v : ℕ) → v < firstGate c → getD (valuesIn c state) v low ≡ getD front v low
   unfolding valuesIn settle ternary switchesUnknown
-  front-entry v h = pass-front ternary front (c .gates) v low (omega (arith, length-front))
+  front-entry v h = entry-front ternary front (c .gates) v low (omega (arith, length-front))
 
   pub constant-entry : getD (valuesIn c state) 0 low ≡ low
   constant-entry = front-entry 0 (omega arith)

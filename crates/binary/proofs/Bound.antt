@@ -2,7 +2,7 @@
 -- literal for a latch, 5 for a lamp, 4 for a gate; larger own literals make a latch line no shorter. Assumes nothing.
 use mathlib.Core.Path.{_≡_, refl}
 use mathlib.Core.List.{List, [], _∷_}
-use Prim.Native.Nat.{ℕ, zero, suc, _+_, _-_, _≤_}
+use Prim.Native.Nat.{ℕ, _+_, _-_, _≤_}
 use native.Mathlib.Omega.{arith}
 use borrow.Author.Tests.{leb-true, ltb-true}
 use lib.ListN.{length, length-append, drop, getD}
@@ -12,11 +12,11 @@ use Rattle.circuit.specs.RulesInCode.{Passed, Bounded}
 use Rattle.circuit.specs.Table.{top, ceilingTests, Kind, input, latch, literal, gate, several, kinds, width, rowTests, tableTests, wordTests, circuitTests, literalTests, operandTests}
 use Rattle.circuit.proofs.Refusals.{passed-append}
 use Rattle.text.specs.Decimal.{digits, decimal}
-use Rattle.text.specs.Line.{lineText, endedLine}
+use Rattle.text.specs.Line.{endedLine}
 use Rattle.text.specs.Text.{writeRows, writeOpened, shown, headNumbers}
 use Rattle.text.proofs.Decimals.{length-below, length-monotone}
 use Rattle.text.proofs.Tables.{Due, Owned, owned-kinds, Taken, taken}
-use Rattle.text.proofs.Bound.{ceiling, one-digit, rooms, Growing, rooms-kinds, head-room, wordsBy}
+use Rattle.text.proofs.Bound.{ceiling, next-room, rooms, Growing, rooms-kinds, head-room, wordsBy}
 use Rattle.binary.specs.Difference.{groupsOf, groups}
 use Rattle.binary.specs.Gate.{differences, gateBytes}
 use Rattle.binary.specs.Binary.{rowBytes, writeBinary}
@@ -31,16 +31,10 @@ room (gate own) = 4
 
 -- ---- rows that keep the rules stay within their room
 
-latch-room : (own next reset : ℕ) → next ≤ 8191 → length (lineText (next ∷ shown own reset)) ≤ length (decimal own) + 6
-unfolding endedLine shown
-latch-room own next zero p = simp length-append (omega (arith, length-below 3 next (omega arith), one-digit own))
-latch-room own next (suc zero) p = simp length-append (omega (arith, length-below 3 next (omega arith), length-below 0 1 (omega arith), one-digit own))
-latch-room own next (suc (suc n)) p = simp length-append (omega (arith, length-below 3 next (omega arith)))
-
 row-room : (most : ℕ) (k : Kind) (ws : List ℕ) → most ≤ 8191 → Due most k → Passed (rowTests most k ws) → length (rowBytes k ws) ≤ room k
 unfolding rowBytes room rowTests literalTests operandTests endedLine
 row-room most (input own) ws m d p = omega arith
-row-room most (latch own) ws m d p = latch-room own (getD ws 0 0) (getD ws 1 0) (omega (arith, leb-true))
+row-room most (latch own) ws m d p = next-room own (getD ws 0 0) (getD ws 1 0) (omega (arith, leb-true))
 row-room most literal ws m d p = simp length-append (omega (arith, length-below 3 (getD ws 0 0) (omega (arith, leb-true))))
 row-room most (gate own) ws m d p =
     length-gate _ (differences-small own (getD ws 0 0) (getD ws 1 0) (omega arith) (omega (arith, ltb-true)) (omega (arith, ltb-true)))

@@ -35,15 +35,15 @@ module _ {A : Type 0} (logic : Logic A) where
   longer vs x = length-append vs (x ∷ []) ∙ omega arith
 
   -- what stands in front stays
-  pub pass-front : (vs : List A) (gs : List Gate) (i : ℕ) (d : A) → i < length vs → getD (pass logic vs gs) i d ≡ getD vs i d
+  pub entry-front : (vs : List A) (gs : List Gate) (i : ℕ) (d : A) → i < length vs → getD (pass logic vs gs) i d ≡ getD vs i d
   unfolding pass
-  pass-front vs [] i d h = refl
-  pass-front vs (g ∷ gs) i d h =
-      pass-front (vs ++ (output vs g ∷ [])) gs i d (omega (arith, longer vs (output vs g))) ∙ List·getD-append vs (output vs g ∷ []) d i h
+  entry-front vs [] i d h = refl
+  entry-front vs (g ∷ gs) i d h =
+      entry-front (vs ++ (output vs g ∷ [])) gs i d (omega (arith, longer vs (output vs g))) ∙ List·getD-append vs (output vs g ∷ []) d i h
 
   pub value-front : (vs : List A) (gs : List Gate) (x : ℕ) → x < 2 * length vs → value logic (pass logic vs gs) x ≡ value logic vs x
   unfolding value
-  value-front vs gs x h = ap (signed logic (x % 2)) (pass-front vs gs (x / 2) (logic .false) (omega arith))
+  value-front vs gs x h = ap (signed logic (x % 2)) (entry-front vs gs (x / 2) (logic .false) (omega arith))
 
   last-item : (vs : List A) (x d : A) → getD (vs ++ (x ∷ [])) (length vs) d ≡ x
   last-item [] x d = refl
@@ -56,7 +56,7 @@ module _ {A : Type 0} (logic : Logic A) where
   pass-at vs (g ∷ gs) zero g₀ d f h =
       let x : A = output vs g in
       let all : List A = pass logic (vs ++ (x ∷ [])) gs in
-      let seen : getD all (length vs) d ≡ x = pass-front (vs ++ (x ∷ [])) gs (length vs) d (omega (arith, longer vs x)) ∙ last-item vs x d in
+      let seen : getD all (length vs) d ≡ x = entry-front (vs ++ (x ∷ [])) gs (length vs) d (omega (arith, longer vs x)) ∙ last-item vs x d in
       let place : length vs + 0 ≡ length vs = add-zero (length vs) in
       ap (λ (n : ℕ). getD all n d) place ∙ seen
       ∙ ap₂ (logic .and) (sym (value-front vs (g ∷ gs) (g .left) (f .0))) (sym (value-front vs (g ∷ gs) (g .right) (f .1)))

@@ -18,7 +18,7 @@ use Rattle.drawn.specs.Drawing.{Drawing, leaves, lines, own, nextLiteral
 use Rattle.drawn.specs.Meaning.{literal, Solves, nextUnder, lampsUnder, Does, Behaves, Follows}
 use Rattle.drawn.proofs.Proper.{Defined, Proper}
 use Rattle.drawn.proofs.Naming.{gates-sorted, gate-small, line-leaf, line-gate, Numbered, ofLeaf, ofGate, numbered, name-line, name-zero, old, named, left-named, right-named}
-use Rattle.circuit.proofs.Fixed.{Falling, falling, pass-front, pass-at}
+use Rattle.circuit.proofs.Fixed.{Falling, falling, entry-front, pass-at}
 use Rattle.drawn.proofs.Tables.{drawnCircuit, table-circuit}
 use Rattle.drawn.proofs.Picking.{getD-behind}
 
@@ -44,14 +44,14 @@ module _ (d : Drawing) (p : Proper d) (r s : List Bool) (inputs-long : length r 
   -- ---- the entries
 
   entry-zero : getD values 0 false ≡ false
-  entry-zero = pass-front boolean front gateList 0 false (omega (arith, front-long))
+  entry-zero = entry-front boolean front gateList 0 false (omega (arith, front-long))
 
   entry-input : (i : ℕ) → i < d .counts .inputs → getD values (suc i) false ≡ getD r i false
-  entry-input i h = pass-front boolean front gateList (suc i) false (omega (arith, front-long)) ∙ List·getD-append r s false i (omega (arith, inputs-long))
+  entry-input i h = entry-front boolean front gateList (suc i) false (omega (arith, front-long)) ∙ List·getD-append r s false i (omega (arith, inputs-long))
 
   entry-latch : (i : ℕ) → i < d .counts .latches → getD values (suc (d .counts .inputs + i)) false ≡ getD s i false
   entry-latch i h =
-      pass-front boolean front gateList (suc (d .counts .inputs + i)) false (omega (arith, front-long))
+      entry-front boolean front gateList (suc (d .counts .inputs + i)) false (omega (arith, front-long))
       ∙ rw (← inputs-long) (getD-behind r s i false)
 
   entry-gate : (q : ℕ) → q < d .counts .gates

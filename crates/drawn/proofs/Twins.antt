@@ -14,7 +14,7 @@ use Rattle.circuit.specs.Table.{circuitOf}
 use Rattle.drawn.specs.Drawing.{Drawing, leaves, lines, own, nextLiteral, lamp, left, right, table}
 use Rattle.drawn.specs.Meaning.{literal, Solves, nextUnder, lampsUnder}
 use Rattle.drawn.proofs.Proper.{Proper}
-use Rattle.circuit.proofs.Fixed.{Falling, falling, pass-front, pass-at}
+use Rattle.circuit.proofs.Fixed.{Falling, falling, entry-front, pass-at}
 use Rattle.drawn.proofs.Same.{next-same, lamps-same}
 use Rattle.drawn.proofs.Picking.{getD-behind}
 
@@ -52,9 +52,9 @@ module _ (d : Drawing) (p : Proper d) (due : (k : ℕ) → k < lines d → own d
   entries-solve : Solves d r s entry
   unfolding entry boolean
   entries-solve = record {
-    constant = pass-front boolean front gates 0 false (omega (arith, front-long));
-    inputs = λ i h. ap (λ (n : ℕ). getD values n false) (own-half i (omega arith)) ∙ pass-front boolean front gates (suc i) false (omega (arith, front-long)) ∙ List·getD-append r s false i (omega (arith, inputs-long));
-    latches = λ i h. ap (λ (n : ℕ). getD values n false) (own-half (d .counts .inputs + i) (omega arith)) ∙ pass-front boolean front gates (suc (d .counts .inputs + i)) false (omega (arith, front-long)) ∙ rw (← inputs-long) (getD-behind r s i false);
+    constant = entry-front boolean front gates 0 false (omega (arith, front-long));
+    inputs = λ i h. ap (λ (n : ℕ). getD values n false) (own-half i (omega arith)) ∙ entry-front boolean front gates (suc i) false (omega (arith, front-long)) ∙ List·getD-append r s false i (omega (arith, inputs-long));
+    latches = λ i h. ap (λ (n : ℕ). getD values n false) (own-half (d .counts .inputs + i) (omega arith)) ∙ entry-front boolean front gates (suc (d .counts .inputs + i)) false (omega (arith, front-long)) ∙ rw (← inputs-long) (getD-behind r s i false);
     gates = λ i h.
         let g₀ : Gate = record { left = 0; right = 0 } in
         let place : length front + i ≡ suc (leaves d + i) = omega (arith, front-long) in

@@ -35,11 +35,15 @@ pub one-digit : (n : ℕ) → 1 ≤ length (decimal n)
 unfolding decimal digits
 one-digit n = length-monotone 0 n (omega arith)
 
-latch-room : (own next reset : ℕ) → next ≤ 8191 → length (lineText (own ∷ next ∷ shown own reset)) ≤ 2 * length (decimal own) + 7
+-- a latch's numbers behind its own literal, which the reset may repeat
+pub next-room : (own next reset : ℕ) → next ≤ 8191 → length (lineText (next ∷ shown own reset)) ≤ length (decimal own) + 6
 unfolding endedLine shown
-latch-room own next zero p = simp length-append (omega (arith, length-below 3 next (omega arith), one-digit own))
-latch-room own next (suc zero) p = simp length-append (omega (arith, length-below 3 next (omega arith), length-below 0 1 (omega arith), one-digit own))
-latch-room own next (suc (suc n)) p = simp length-append (omega (arith, length-below 3 next (omega arith)))
+next-room own next zero p = simp length-append (omega (arith, length-below 3 next (omega arith), one-digit own))
+next-room own next (suc zero) p = simp length-append (omega (arith, length-below 3 next (omega arith), length-below 0 1 (omega arith), one-digit own))
+next-room own next (suc (suc n)) p = simp length-append (omega (arith, length-below 3 next (omega arith)))
+
+latch-room : (own next reset : ℕ) → next ≤ 8191 → length (lineText (own ∷ next ∷ shown own reset)) ≤ 2 * length (decimal own) + 7
+latch-room own next reset p = let behind = next-room own next reset p in unfold endedLine in simp length-append (omega (arith, behind))
 
 line-room : (most : ℕ) (k : Kind) (ws : List ℕ) → most ≤ 8191 → Passed (rowTests most k ws) → length (lineText (numbers k ws)) ≤ room k
 unfolding endedLine numbers room rowTests literalTests operandTests
