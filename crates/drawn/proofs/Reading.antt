@@ -1,25 +1,25 @@
 -- What is accepted: the first line, then line by line, then 20, 21, 22 and 9. Assumes nothing.
 use mathlib.Core.Path.{_≡_, ap, _∙_}
-use mathlib.Core.Bool.{true}
 use mathlib.Core.List.{List, [], _∷_, _++_}
 use Prim.Native.Nat.{ℕ, zero, suc, _+_, _≤_, _<_}
 use native.Mathlib.Omega.{arith}
-use borrow.Author.Tests.{leb-true, le-leb}
+use borrow.Author.Tests.{le-leb}
 use lib.Dec.{leb}
 use lib.ListN.{length, getD}
 use Rattle.circuit.specs.RulesInCode.{Passed}
 use Rattle.circuit.specs.declared.Counts.{Counts}
-use Rattle.circuit.specs.Refusal.{Test, _or_, refusal}
+use Rattle.circuit.specs.Refusal.{Test, _or_}
 use Rattle.circuit.specs.Table.{ceilingTests, Kind, input, latch, literal, gate, literalTests}
 use Rattle.circuit.proofs.Refusals.{Numbered, past, none, passed-refusal}
 use Rattle.text.specs.Part.{got}
-use Rattle.text.specs.Outcome.{accepted, refused, tested, further, onward}
-use Rattle.text.specs.Text.{fits, words, Lines, readLines, header, countsOf}
+use Rattle.text.specs.Outcome.{accepted, tested, further, onward}
+use Rattle.text.specs.Text.{words, Lines, readLines, header, countsOf}
 use Rattle.text.proofs.Parts.{by-part}
 use Rattle.text.proofs.Outcomes.{accepted-same, tested-past, refused-accepted, tested-accepted, further-accepted, onward-accepted}
 use Rattle.text.proofs.Steps.{line-accepted}
 use Rattle.drawn.specs.Drawing.{Drawing, drawingTests}
-use Rattle.drawn.specs.Lines.{anyTests, anyHeaderTests, bodyOf, drawing, afterTests, readDrawing, readAnyEnded, readAny}
+use Rattle.text.proofs.Spelling.{words-below}
+use Rattle.drawn.specs.Lines.{anyTests, anyHeaderTests, bodyOf, drawing, afterTests, readDrawing, readAnyEnded}
 
 pub any-numbered : (most : ℕ) (k : Kind) (ns : List ℕ) → Numbered (anyTests most k ns)
 unfolding anyTests literalTests
@@ -29,16 +29,8 @@ any-numbered most k ns = elim k [ input own ↦ omega arith | latch own ↦ omeg
 
 -- words that nothing refuses are small
 pub words-small : (most : ℕ) (k : Kind) (ns : List ℕ) → most < 8192 → Passed (anyTests most k ns) → (i : ℕ) → getD (words k ns) i 0 < 8192
-unfolding anyTests words literalTests
-words-small most (input own) ns h p i = omega arith
-words-small most (latch own) ns h p zero = omega (arith, leb-true)
-words-small most (latch own) ns h p (suc zero) = omega (arith, leb-true)
-words-small most (latch own) ns h p (suc (suc i)) = omega arith
-words-small most literal ns h p zero = omega (arith, leb-true)
-words-small most literal ns h p (suc i) = omega arith
-words-small most (gate own) ns h p zero = omega (arith, leb-true)
-words-small most (gate own) ns h p (suc zero) = omega (arith, leb-true)
-words-small most (gate own) ns h p (suc (suc i)) = omega arith
+unfolding anyTests
+words-small most k ns h p = words-below 8192 most k ns (omega arith) h (p .1)
 
 pub accepted-small : (ending : List ℕ) (most : ℕ) (ks : List Kind) (t : List ℕ) {l : Lines} → most < 8192 → readLines ending (anyTests most) ks t ≡ accepted l → (i : ℕ) → getD (l .words) i 0 < 8192
 unfolding readLines

@@ -1,15 +1,16 @@
 -- The second pass, turn by turn: what is left of the text has the words that are left of the table. Assumes nothing.
 use mathlib.Core.Path.{_≡_, refl, sym, _∙_, ap}
 use mathlib.Core.List.{List, [], _∷_, _++_}
-use Prim.Native.Nat.{ℕ, zero, suc, _+_, _*_, _≤_, _<_}
+use Prim.Native.Nat.{ℕ, _+_, _*_, _≤_, _<_}
 use native.Mathlib.Omega.{arith}
-use borrow.Author.Tests.{leb-true}
 use lib.ListN.{length, getD, length-append}
 use lib.Seq.{sets, length-sets}
 use Rattle.three.specs.Lists.{over}
 use Rattle.circuit.specs.declared.Counts.{Counts}
 use Rattle.circuit.specs.RulesInCode.{Passed, Bounded}
-use Rattle.circuit.specs.Table.{top, Kind, input, latch, gate, several, rowTests, literal, literalTests, operandTests}
+use Rattle.circuit.specs.Table.{top, Kind, several, rowTests, literalTests, operandTests}
+use Rattle.circuit.proofs.Refusals.{passed-append}
+use Rattle.text.proofs.Spelling.{words-below}
 use Rattle.text.specs.Line.{readLine}
 use Rattle.text.specs.Outcome.{accepted, leaves}
 use Rattle.text.specs.Text.{words, lineTests, Lines, circuitLines}
@@ -23,16 +24,8 @@ use Rattle.text.proofs.Tables.{linesFrom, lines-first, lines-next, lines-last}
 
 -- words that nothing refuses have 16 bits
 pub words-small : (most : ℕ) (k : Kind) (ns : List ℕ) → most < 65536 → Passed (lineTests most k ns) → (i : ℕ) → getD (words k ns) i 0 < 65536
-unfolding lineTests words rowTests literalTests operandTests
-words-small most (input own) ns h p i = omega arith
-words-small most (latch own) ns h p zero = omega (arith, leb-true)
-words-small most (latch own) ns h p (suc zero) = omega (arith, leb-true)
-words-small most (latch own) ns h p (suc (suc i)) = omega arith
-words-small most literal ns h p zero = omega (arith, leb-true)
-words-small most literal ns h p (suc i) = omega arith
-words-small most (gate own) ns h p zero = omega (arith, leb-true)
-words-small most (gate own) ns h p (suc zero) = omega (arith, leb-true)
-words-small most (gate own) ns h p (suc (suc i)) = omega arith
+unfolding lineTests rowTests
+words-small most k ns h p = words-below 65536 most k ns (omega arith) h (passed-append (literalTests most k (words k ns)) (operandTests k (words k ns)) (p .1 .1) .0)
 
 -- ---- a line, and those behind it
 

@@ -104,3 +104,16 @@ spelled (latch own) ns ws f o =
     subst⁻¹ (Spelled ws (latch own) (words (latch own) ns ++ ws)) e (rw h latchLine))
 spelled literal ns ws f o = subst⁻¹ (Spelled ws literal _) (listed 1 ns (eqb-true (length ns) 1 f)) lampLine
 spelled (gate own) ns ws f o = subst⁻¹ (Spelled ws (gate own) _) (listed 3 ns (eqb-true (length ns) 3 f) ∙ rw (eqb-true (getD ns 0 0) own o)) gateLine
+
+-- words that 6 and 8 do not refuse are below whatever the largest literal and a reset are below
+pub words-below : (bound most : ℕ) (k : Kind) (ns : List ℕ) → 2 < bound → most < bound → Passed (literalTests most k (words k ns)) → (i : ℕ) → getD (words k ns) i 0 < bound
+unfolding words literalTests
+words-below bound most (input own) ns b h p i = omega arith
+words-below bound most (latch own) ns b h p zero = omega (arith, leb-true)
+words-below bound most (latch own) ns b h p (suc zero) = omega (arith, leb-true)
+words-below bound most (latch own) ns b h p (suc (suc i)) = omega arith
+words-below bound most literal ns b h p zero = omega (arith, leb-true)
+words-below bound most literal ns b h p (suc i) = omega arith
+words-below bound most (gate own) ns b h p zero = omega (arith, leb-true)
+words-below bound most (gate own) ns b h p (suc zero) = omega (arith, leb-true)
+words-below bound most (gate own) ns b h p (suc (suc i)) = omega arith
