@@ -11,7 +11,7 @@ use Rattle.circuit.specs.declared.Counts.{Counts}
 use Rattle.circuit.specs.Circuit.{Circuit, lamps}
 use Rattle.circuit.specs.Table.{circuitOf}
 use Rattle.cubes.specs.Run.{nextCube, lampsIn, cubeAt, Ending, stops, full, run, merge, verdict, settled, mergeFrom}
-use Rattle.cubes.specs.Buffer.{cubeIn, packCubes}
+use Rattle.cubes.specs.Buffer.{cubeIn, packCubes, marked}
 use Rattle.cubes.specs.Chain.{storedCubes, backTo, outcomeNumber}
 use Rattle.cubes.specs.OutcomesInCode.{hasStopped}
 use Rattle.cubes.proofs.Steps.{found, Ran, stays, closes, ran}
@@ -109,8 +109,8 @@ module _ (c : Counts) (words : List ℕ) (w : ℕ) where
   pub cubes-sized : (k : ℕ) → length (cubeAt circuit w k) ≡ c .latches
   cubes-sized k = cube-sized circuit w k ∙ latches-counted c words
 
-  module _ (buffer : List ℕ) (n : ℕ) (cubes : List ℕ) (fills : cubes ≡ over (packCubes (cubeAt circuit w) n) buffer) where
+  module _ (buffer : List ℕ) (n : ℕ) (cubes : List ℕ) (fills : cubes ≡ over (packCubes (marked w) (cubeAt circuit w) n) buffer) where
     pub cube-in : (k : ℕ) → k < n → cubeIn (c .latches) cubes k ≡ cubeAt circuit w k
     cube-in k h =
         ap (λ (l : List ℕ). cubeIn (c .latches) l k) fills
-        ∙ stored-cube (c .latches) (cubeAt circuit w) cubes-sized buffer n k h
+        ∙ stored-cube (c .latches) (marked w) (cubeAt circuit w) cubes-sized buffer n k h

@@ -11,11 +11,10 @@ use Rattle.circuit.specs.Refusal.{leftBy}
 use Rattle.circuit.proofs.Refusals.{accepted-new}
 use Rattle.cubes.specs.declared.ChainAnswer.{ChainAnswer}
 use Rattle.cubes.specs.Run.{cubeAt, Ending, stops, full}
-use Rattle.cubes.specs.Buffer.{cubeBytes, cubeIn, soundIn, packCubes}
+use Rattle.cubes.specs.Buffer.{cubeBytes, cubeIn, soundIn, packCubes, marked}
 use Rattle.cubes.specs.Chain.{roomIn, storedCubes, outcomeNumber, ChainGiven, refusedBy, circuitIn, outcomeIn, cubesIn, backIn, Chained}
 use Rattle.cubes.specs.OutcomesInCode.{hasStopped}
 use Rattle.cubes.specs.Promise.{mostCubes, Closing}
-use Rattle.cubes.proofs.StoredCube.{cube-is-sound}
 use Rattle.cubes.proofs.Storing.{records-sized, stored-sound}
 use Rattle.cubes.proofs.Given.{cubes-fit}
 use Rattle.cubes.proofs.Merging.{length-over}
@@ -60,8 +59,8 @@ module _ (g : ChainGiven) (r : ChainAnswer) (cubes : List ℕ) (chained : Chaine
     unfolding cubesIn backIn
     outcome-is = stopped-is (roomIn (g .counts) (g .cubes)) (outcomeIn g) (says .1) ∙ ap₂ stops (sym n-is) (sym j-is)
 
-    filled : cubes ≡ over (packCubes (cubeAt (circuitIn g) (g .w)) (r .cubes)) (g .cubes)
-    filled = chained .fills-cubes ∙ taken _ _ ∙ ap (λ (n : ℕ). over (packCubes (cubeAt (circuitIn g) (g .w)) n) (g .cubes)) (sym n-is)
+    filled : cubes ≡ over (packCubes (marked (g .w)) (cubeAt (circuitIn g) (g .w)) (r .cubes)) (g .cubes)
+    filled = chained .fills-cubes ∙ taken _ _ ∙ ap (λ (n : ℕ). over (packCubes (marked (g .w)) (cubeAt (circuitIn g) (g .w)) n) (g .cubes)) (sym n-is)
 
     -- what stands in the buffer, cube by cube
     pub cube-is : (k : ℕ) → k < r .cubes → cubeAt (circuitIn g) (g .w) k ≡ cubeIn (g .counts .latches) cubes k
@@ -80,7 +79,7 @@ module _ (g : ChainGiven) (r : ChainAnswer) (cubes : List ℕ) (chained : Chaine
     sized = cubes-sized (g .counts) (g .table) (g .w)
 
     long : length cubes ≡ length (g .cubes)
-    long = ap length filled ∙ length-over _ (g .cubes) (rw (records-sized (g .counts .latches) (cubeAt (circuitIn g) (g .w)) sized (r .cubes)) fit)
+    long = ap length filled ∙ length-over _ (g .cubes) (rw (records-sized (g .counts .latches) (marked (g .w)) (cubeAt (circuitIn g) (g .w)) sized (r .cubes)) fit)
 
     -- they fit, and 14 refuses none of them
     pub own-few : r .cubes ≤ roomIn (g .counts) cubes
@@ -89,7 +88,7 @@ module _ (g : ChainGiven) (r : ChainAnswer) (cubes : List ℕ) (chained : Chaine
 
     pub own-sound : every (r .cubes) (soundIn (g .counts .latches) cubes) ≡ true
     unfolding soundIn
-    own-sound = every-all (r .cubes) _ (λ k h. cube-is-sound _ _ (rw filled (stored-sound (g .counts .latches) (cubeAt (circuitIn g) (g .w)) sized (g .cubes) (r .cubes) k h fit)))
+    own-sound = every-all (r .cubes) _ (λ k h. rw filled (stored-sound (g .counts .latches) (marked (g .w)) (cubeAt (circuitIn g) (g .w)) sized (g .cubes) (r .cubes) k h fit .good))
 
   -- ---- not closed
 

@@ -20,7 +20,6 @@ use Rattle.cubes.specs.BufferInCode.{Cubes}
 use Rattle.cubes.specs.Chain.{roomIn}
 use Rattle.cubes.specs.Given.{cubeTests}
 use Rattle.cubes.specs.GivenInCode.{givenTests}
-use Rattle.cubes.proofs.StoredCube.{sound-cube}
 use Rattle.cubes.proofs.Storing.{cube-place}
 
 pub room-is : (c : Counts) (cubes : List ℕ) {len : ℕ} → len ≡ cubeBytes (c .latches) → length cubes / len ≡ roomIn c cubes
@@ -58,7 +57,10 @@ module _ (c : Counts) (cubes : List ℕ) (n : ℕ) where
   cubes-stand few good = record {
     size = refl;
     fits = cubes-fit few;
-    cube = λ k h. sound-cube _ _ (omega (arith, cube-place n (cubeBytes (c .latches)) k (length cubes) h (cubes-fit few), length-drop (k * cubeBytes (c .latches)) cubes)) (every-at n (soundIn (c .latches) cubes) good k h);
+    cube = λ k h. record {
+      fits = rw length-drop (omega (arith, cube-place n (cubeBytes (c .latches)) k (length cubes) h (cubes-fit few)));
+      good = every-at n (soundIn (c .latches) cubes) good k h;
+    };
   }
 
 -- ---- behind the table's tests, and before those that look into the cubes

@@ -10,6 +10,9 @@ pub mod Promise
 pub mod Covering
 pub mod Pairs
 pub mod StoredCube
+pub mod Raised
+pub mod Marks
+pub mod Held
 pub mod Storing
 pub mod Given
 pub mod Merging
@@ -24,3 +27,4 @@ pub mod Unwidened
 pub mod Trusted
 pub mod Own
 pub mod Determined
+pub mod Unmarked

@@ -1,11 +1,11 @@
 -- A loop that merges one record after another into a buffer: it has merged those from `base` up to, not including, k. Assumes nothing.
 use mathlib.Core.Path.{_≡_, refl, sym, ap, ap₂, _∙_}
-use mathlib.Core.List.{List, _++_}
-use Prim.Native.Nat.{ℕ, suc, _+_, _-_, _≤_}
+use mathlib.Core.List.{List, [], _∷_, _++_}
+use Prim.Native.Nat.{ℕ, zero, suc, _+_, _-_, _≤_}
 use native.Mathlib.Omega.{arith}
 use lib.ListN.{length, drop, length-append, length-drop}
 use lib.Seq.{drop-drop, drop-append-add}
-use Rattle.three.specs.Lists.{over}
+use Rattle.three.specs.Lists.{adjust, over}
 use Rattle.three.specs.Cube.{Cube, merged}
 use Rattle.three.specs.Record.{bytesFor, pack, unpack}
 use Rattle.three.specs.RecordInCode.{IsRecord}
@@ -80,3 +80,17 @@ module _ (size : ℕ) (f : ℕ → Cube) (sized : (k : ℕ) → length (f k) ≡
         let all : suc (m .more) ≡ n - base = omega (arith, m .place) in
         m .same ∙ ap (over (pack (merge f base (m .more)))) begun ∙ over-over (pack (f base)) _ entry (omega (arith, first-long, pack-merged (m .more)))
         ∙ ap (λ (count : ℕ). over (pack (mergeFrom none f base count)) entry) all
+
+-- ---- marks left off: the merge of what is behind the first field
+
+merged-behind : (a b : Cube) → drop 1 (merged a b) ≡ merged (drop 1 a) (drop 1 b)
+unfolding merged adjust
+merged-behind [] b = refl
+merged-behind (x ∷ []) [] = refl
+merged-behind (x ∷ y ∷ a) [] = refl
+merged-behind (x ∷ a) (y ∷ b) = refl
+
+pub merge-behind : (f : ℕ → Cube) (base more : ℕ) → drop 1 (merge f base more) ≡ merge (λ k. drop 1 (f k)) base more
+unfolding merge
+merge-behind f base zero = refl
+merge-behind f base (suc more) = merged-behind _ _ ∙ ap (λ (v : Cube). merged v (drop 1 (f (base + suc more)))) (merge-behind f base more)

@@ -10,7 +10,7 @@ use Rattle.circuit.specs.Circuit.{Circuit}
 use Rattle.circuit.specs.Refusal.{Test, _or_, refusal, leftBy}
 use Rattle.circuit.specs.Table.{circuitOf, boardTests}
 use Rattle.cubes.specs.declared.ChainAnswer.{ChainAnswer}
-use Rattle.cubes.specs.Buffer.{cubeBytes, packCubes}
+use Rattle.cubes.specs.Buffer.{cubeBytes, packCubes, marked}
 use Rattle.cubes.specs.Run.{cubeAt, Ending, stops, full, run}
 
 -- ---- cubes in the buffer
@@ -67,4 +67,4 @@ pub record Chained (g : ChainGiven) (r : ChainAnswer) (cubes : List ℕ) : Type 
   pub answers : r .number ≡ leftBy (refusedBy g) (outcomeNumber (outcomeIn g)) (refusedBy g)
   pub counts : r .cubes ≡ leftBy (refusedBy g) (cubesIn g) 0
   pub goes-back : r .back ≡ leftBy (refusedBy g) (backIn g) 0
-  pub fills-cubes : cubes ≡ leftBy (refusedBy g) (over (packCubes (cubeAt (circuitIn g) (g .w)) (cubesIn g)) (g .cubes)) (g .cubes)
+  pub fills-cubes : cubes ≡ leftBy (refusedBy g) (over (packCubes (marked (g .w)) (cubeAt (circuitIn g) (g .w)) (cubesIn g)) (g .cubes)) (g .cubes)

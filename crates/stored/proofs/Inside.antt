@@ -3,50 +3,48 @@ use mathlib.Core.Path.{_≡_, sym, ap, _∙_}
 use mathlib.Core.Bool.{true, false}
 use mathlib.Core.List.{List}
 use Prim.Native.Nat.{ℕ, _+_, _*_, _<_}
-use native.Mathlib.Omega.{arith}
 use borrow.Author.Tests.{ltb-true, ltb-false}
 use lib.Dec.{ltb}
-use lib.ListN.{length, getD, drop, List·getD-append}
-use lib.Seq.{getD-drop, getD-take}
-use Rattle.three.specs.Lists.{over, first}
+use lib.ListN.{length, getD, drop}
+use lib.Seq.{getD-drop}
+use Rattle.three.specs.Lists.{first}
+use Rattle.three.specs.Value.{code}
 use Rattle.three.specs.Cube.{Cube, subsumes}
 use Rattle.three.proofs.First.{first-ext}
 use Rattle.three.proofs.Lists.{by-test}
 use Rattle.circuit.specs.Circuit.{Circuit}
 use Rattle.cubes.specs.Run.{Found, at, nowhere}
-use Rattle.cubes.specs.Buffer.{cubeBytes, packCube, cubeIn, cubeOf}
-use Rattle.cubes.specs.BufferInCode.{Cubes, IsCube}
+use Rattle.cubes.specs.Buffer.{cubeBytes, cubeIn, cubeOf}
+use Rattle.cubes.specs.BufferInCode.{Cubes, IsCube, markOf}
 use Rattle.cubes.specs.Given.{covered}
-use Rattle.cubes.proofs.StoredCube.{cube-at, cube-pack, cube-long, cube-repacked, cube-covers, Bytes, cube-of-sized}
-use Rattle.stored.specs.CubesInCode.{coversFrom}
+use Rattle.cubes.proofs.StoredCube.{cube-at, cube-record, cube-of-sized}
+use Rattle.cubes.proofs.Raised.{Marked, given-bytes}
+use Rattle.cubes.proofs.Marks.{sought-mark, cube-covers}
+use Rattle.cubes.proofs.Held.{Bytes}
 use Rattle.cubes.proofs.First.{search-first}
-
--- the bytes of a cube that was stored at the front of a buffer
-pub front-bytes : {latches : ℕ} (v : Cube) → length v ≡ latches → (d : List ℕ) → Bytes latches (λ i. getD (over (packCube v) d) i 0) v
-unfolding over
-front-bytes v sized d i h = List·getD-append (packCube v) _ 0 i (omega (arith, cube-long v sized))
+use Rattle.stored.specs.CubesInCode.{raisedBytes, coversFrom}
+use Rattle.stored.proofs.Raising.{raised-bytes}
 
 -- the cube at byte `at`
 module _ (latches len : ℕ) (size : len ≡ cubeBytes latches) (cubes : List ℕ) (small : (i : ℕ) → getD cubes i 0 < 256) (at : ℕ) (cube : IsCube latches (drop at cubes)) where
-  pub bytes-at : Bytes latches (λ i. getD cubes (at + i) 0) (cubeOf latches (drop at cubes))
-  bytes-at i l =
-      sym (getD-drop at cubes i 0)
-      ∙ sym (getD-take (cubeBytes latches) (drop at cubes) i 0 l)
-      ∙ ap (λ (x : List ℕ). getD x i 0) (cube-repacked latches (drop at cubes) cube (λ m. rw getD-drop (small (at + m))) ∙ sym (cube-pack (cubeOf latches (drop at cubes))))
+  pub bytes-at : Marked latches (λ i. getD cubes (at + i) 0) (code (markOf (drop at cubes))) (cubeOf latches (drop at cubes))
+  bytes-at i l = sym (getD-drop at cubes i 0) ∙ given-bytes (drop at cubes) (cube-record latches _ cube) (λ m. rw getD-drop (small (at + m))) i l
 
-  -- the byte-wise test is subsumption
-  pub covers-at : (b : List ℕ) (v : Cube) → length v ≡ latches → Bytes latches (λ i. getD b i 0) v → coversFrom len cubes b at ≡ subsumes (cubeOf latches (drop at cubes)) v
+  -- the byte-wise test is subsumption, whatever its mark is
+  pub covers-at : (b : List ℕ) (v : Cube) → length v ≡ latches → Bytes len (λ i. getD b i 0) v → coversFrom len cubes (raisedBytes len 3 b) at ≡ subsumes (cubeOf latches (drop at cubes)) v
   unfolding coversFrom
-  covers-at b v sized is = ap (λ (m : ℕ). coversFrom m cubes b at) size ∙ cube-covers _ _ _ _ (cube-of-sized latches _) sized bytes-at is
+  covers-at b v sized is =
+      ap (λ (m : ℕ). coversFrom m cubes (raisedBytes len 3 b) at) size
+      ∙ cube-covers _ _ _ _ _ _ (cube-of-sized latches _) sized (sought-mark (markOf (drop at cubes))) bytes-at (raised-bytes len 3 b latches size v is)
 
 module _ (latches len n : ℕ) (cubes : List ℕ) (are : Cubes latches len n cubes) (small : (i : ℕ) → getD cubes i 0 < 256) where
-  module _ (b : List ℕ) (v : Cube) (sized : length v ≡ latches) (is : Bytes latches (λ i. getD b i 0) v) where
-    given-covers : (k : ℕ) → k < n → coversFrom len cubes b (k * len) ≡ subsumes (cubeIn latches cubes k) v
+  module _ (b : List ℕ) (v : Cube) (sized : length v ≡ latches) (is : Bytes len (λ i. getD b i 0) v) where
+    given-covers : (k : ℕ) → k < n → coversFrom len cubes (raisedBytes len 3 b) (k * len) ≡ subsumes (cubeIn latches cubes k) v
     given-covers k h =
         covers-at latches len (are .size) cubes small (k * len) (are .cube k h) b v sized is ∙ ap (λ (a : Cube). subsumes a v) (cube-at latches (are .size) cubes k)
 
     -- and the search is the definition's
-    pub found-inside : (c : Circuit) {j : ℕ} → j ≡ first n (λ k. coversFrom len cubes b (k * len)) → ltb j n ≡ covered c (cubeIn latches cubes) n v
+    pub found-inside : (c : Circuit) {j : ℕ} → j ≡ first n (λ k. coversFrom len cubes (raisedBytes len 3 b) (k * len)) → ltb j n ≡ covered c (cubeIn latches cubes) n v
     unfolding covered
     found-inside c {j} e =
         let same = e ∙ first-ext n _ (λ k. subsumes (cubeIn latches cubes k) v) given-covers in

@@ -2,7 +2,7 @@
 use mathlib.Core.Path.{_≡_, sym, _∙_}
 use mathlib.Core.List.{List}
 use Prim.Native.Nat.{ℕ, _+_, _*_, _<_, _≤_}
-use native.Mathlib.Nat.{one-mul, mul-le-mul-right}
+use native.Mathlib.Nat.{zero-add, one-mul, mul-le-mul-right}
 use native.Mathlib.Omega.{arith}
 use lib.ListN.{length, getD, set}
 use Rattle.three.proofs.Loops.{Stored, stored-next}
@@ -15,11 +15,11 @@ module _ (len : ℕ) (held b : List ℕ) where
   unfolding keptBytes
   length-kept = length-tabulate len _
 
-  pub kept-next : (out₀ : List ℕ) (at : ℕ) → at + len ≤ length out₀ → (out : List ℕ) (i k : ℕ) → Stored out₀ at (keptBytes len held b) len out i → i < len
-      → k ≡ keptByte (getD b i 0) (getD held i 0) → Stored out₀ at (keptBytes len held b) len (set out (at + i) k) (i + 1)
+  pub kept-next : (out₀ : List ℕ) → len ≤ length out₀ → (out : List ℕ) (i k : ℕ) → Stored out₀ 0 (keptBytes len held b) len out i → i < len
+      → k ≡ keptByte (getD b i 0) (getD held i 0) → Stored out₀ 0 (keptBytes len held b) len (set out i k) (i + 1)
   unfolding keptBytes
-  kept-next out₀ at room out i k s h e =
-      stored-next out₀ at (keptBytes len held b) len room (omega (arith, length-kept)) out i k 0 s h (e ∙ sym (getD-tabulate len _ i 0 h))
+  kept-next out₀ room out i k s h e =
+      rw zero-add at (stored-next out₀ 0 (keptBytes len held b) len (omega arith) (omega (arith, length-kept)) out i k 0 s h (e ∙ sym (getD-tabulate len _ i 0 h)))
 
 pub behind-one : {n : ℕ} (len : ℕ) → 1 ≤ n → len ≤ n * len
 behind-one {n} len h = omega (arith, mul-le-mul-right len h, one-mul len)

@@ -1,4 +1,6 @@
 pub mod Starting
+pub mod Raising
+pub mod Lowering
 pub mod Keeping
 pub mod Searching
 pub mod Reaching

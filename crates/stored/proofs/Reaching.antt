@@ -3,13 +3,17 @@ use mathlib.Core.Path.{_≡_, sym, ap, _∙_}
 use mathlib.Core.List.{List, _∷_, _++_}
 use Prim.Native.Nat.{ℕ, _+_, _-_, _≤_}
 use native.Mathlib.Omega.{arith}
-use lib.ListN.{length, getD, take, drop, replicate, length-drop, length-replicate, length-append, List·getD-append}
+use lib.ListN.{length, getD, take, drop, replicate, length-drop, length-replicate, length-append}
 use lib.Seq.{paste, take-all, take-take}
 use Rattle.three.specs.Lists.{over}
 use Rattle.three.specs.Value.{Three, unknown, low, ternary}
 use Rattle.three.specs.Cube.{Cube}
-use Rattle.three.specs.Record.{pack, unpack}
+use Rattle.three.specs.Record.{bytesFor, pack, unpack}
+use Rattle.three.specs.RecordInCode.{IsRecord}
 use Rattle.three.proofs.Lists.{tabulate-ext}
+use Rattle.three.proofs.Filling.{over-fields}
+use Rattle.three.proofs.Pack.{unpack-over}
+use Rattle.three.proofs.Soundness.{record-over}
 use Rattle.circuit.specs.declared.Counts.{Counts}
 use Rattle.circuit.specs.Circuit.{Circuit, pass, settle}
 use Rattle.circuit.specs.Table.{circuitOf, literalsAt}
@@ -20,19 +24,31 @@ use Rattle.pass.proofs.Settling.{switches-settle, next-stored, lamps-stored}
 use Rattle.cubes.specs.Run.{switchesUnknown, nextCube, lampsIn}
 use Rattle.cubes.specs.HeldInCode.{keptByte}
 use Rattle.stored.specs.CubesInCode.{keptBytes, SwitchesX, Settled}
-use Rattle.cubes.specs.Buffer.{cubeBytes, cubeOf, packCube}
-use Rattle.cubes.proofs.StoredCube.{cube-fields, cube-pack, cube-long}
-use Rattle.cubes.proofs.Buffered.{next-counted}
+use Rattle.cubes.specs.Buffer.{cubeBytes, cubeOf}
+use Rattle.cubes.specs.BufferInCode.{longestCube}
+use Rattle.cubes.proofs.StoredCube.{cube-of-sized}
+use Rattle.cubes.proofs.Held.{Bytes, packed-byte, padded-byte}
 
 module _ (c : Counts) (words : List ℕ) where
   -- the constant and all switches X
   abbrev front : List Three
   front = low ∷ replicate (c .inputs) unknown
 
-  pub cube-settles : (t t′ bytes : List ℕ) → SwitchesX c t → Begins t′ (pass ternary (take (1 + c .inputs) (valuesOf t) ++ unpack (c .latches) bytes) (circuitOf c words .gates))
-      → Settled c words (cubeOf (c .latches) bytes) t′
+  pub state-settles : (t t′ state : List ℕ) → SwitchesX c t → Begins t′ (pass ternary (take (1 + c .inputs) (valuesOf t) ++ unpack (c .latches) state) (circuitOf c words .gates))
+      → Settled c words (unpack (c .latches) state) t′
   unfolding switchesUnknown circuitOf
-  cube-settles t t′ bytes r b = rw (← cube-fields (c .latches) bytes) (switches-settle c words _ _ (length-replicate (c .inputs) unknown) t t′ r b)
+  state-settles t t′ state r b = switches-settle c words _ _ (length-replicate (c .inputs) unknown) t t′ r b
+
+  -- the latches of a cube were stored first
+  module _ (bytes d state : List ℕ) (stored : state ≡ over (pack (cubeOf (c .latches) bytes)) d) where
+    pub latches-record : bytesFor (c .latches) ≤ length d → IsRecord (c .latches) state
+    latches-record room = rw stored (record-over (c .latches) (cubeOf (c .latches) bytes) d (cube-of-sized (c .latches) bytes) room)
+
+    pub cube-settles : (t t′ : List ℕ) → SwitchesX c t → Begins t′ (pass ternary (take (1 + c .inputs) (valuesOf t) ++ unpack (c .latches) state) (circuitOf c words .gates))
+        → Settled c words (cubeOf (c .latches) bytes) t′
+    cube-settles t t′ r b =
+        let read : unpack (c .latches) state ≡ cubeOf (c .latches) bytes = rw stored (unpack-over (c .latches) (cubeOf (c .latches) bytes) d (cube-of-sized (c .latches) bytes)) in
+        rw (← read) (state-settles t t′ state r b)
 
   pub ready-again : (t : List ℕ) (state : Cube) → Settled c words state t → SwitchesX c t
   unfolding settle ternary switchesUnknown circuitOf
@@ -50,9 +66,9 @@ module _ (c : Counts) (words : List ℕ) where
 pub part-tail : (l : List ℕ) (at : ℕ) → take (length l - at) (drop at l) ≡ drop at l
 part-tail l at = take-all (length l - at) (drop at l) (omega (arith, length-drop at l))
 
-kept-over : (len : ℕ) (held s d : List ℕ) → len ≤ length s → keptBytes len held (over s d) ≡ keptBytes len held s
-unfolding keptBytes over
-kept-over len held s d h = tabulate-ext len _ _ (λ i k. ap (λ (x : ℕ). keptByte x (getD held i 0)) (List·getD-append s (drop (length s) d) 0 i (omega arith)))
+kept-padded : (len : ℕ) (held : List ℕ) (v : Cube) → keptBytes len held (over (pack v) (replicate longestCube 0)) ≡ keptBytes len held (pack v)
+unfolding keptBytes
+kept-padded len held v = tabulate-ext len _ _ (λ i h. ap (λ (x : ℕ). keptByte x (getD held i 0)) (padded-byte v i longestCube ∙ sym (packed-byte v i)))
 
 module _ (c : Counts) (words : List ℕ) (legal : Legal c words) (state : Cube) (sized : length state ≡ c .latches) (t : List ℕ) where
   abbrev circuit : Circuit
@@ -62,18 +78,20 @@ module _ (c : Counts) (words : List ℕ) (legal : Legal c words) (state : Cube) 
   unfolding switchesUnknown circuitOf
   unknown-sized = length-replicate (c .inputs) unknown
 
-  pub next-packed : Settled c words state t → (d next : List ℕ) → next ≡ over (pack (literalValues (valuesOf t) words 0 2 (c .latches))) d → next ≡ over (packCube (nextCube circuit state)) d
+  pub next-packed : Settled c words state t → (d next : List ℕ) → next ≡ over (pack (literalValues (valuesOf t) words 0 2 (c .latches))) d → next ≡ over (pack (nextCube circuit state)) d
   unfolding nextCube
-  next-packed settled d next e =
-      e ∙ ap (λ (f : Cube). over (pack f) d) (next-stored c words legal (switchesUnknown circuit) state unknown-sized sized t settled) ∙ ap (λ (l : List ℕ). over l d) (sym (cube-pack _))
+  next-packed settled d next e = over-fields d e (next-stored c words legal (switchesUnknown circuit) state unknown-sized sized t settled)
 
-  pub reach-stored : Settled c words state t → (held d next b b′ : List ℕ) (len : ℕ) → len ≡ cubeBytes (c .latches)
-      → next ≡ over (pack (literalValues (valuesOf t) words 0 2 (c .latches))) d → b′ ≡ paste b 0 (keptBytes len held next) len
-      → b′ ≡ paste b 0 (keptBytes (cubeBytes (c .latches)) held (packCube (nextCube circuit state))) (cubeBytes (c .latches))
-  reach-stored settled held d next b b′ len el en eb =
-      let stored = next-packed settled d next en in
-      let long : length (packCube (nextCube circuit state)) ≡ cubeBytes (c .latches) = cube-long _ (next-counted c words state) in
-      eb ∙ rw (el, stored, kept-over (cubeBytes (c .latches)) held (packCube (nextCube circuit state)) d (omega arith))
+  -- its bytes, where it was stored into zeros
+  pub next-bytes : Settled c words state t → (next : List ℕ) → next ≡ over (pack (literalValues (valuesOf t) words 0 2 (c .latches))) (replicate longestCube 0)
+      → (len : ℕ) → Bytes len (λ i. getD next i 0) (nextCube circuit state)
+  next-bytes settled next e len i h = ap (λ (l : List ℕ). getD l i 0) (next-packed settled _ next e) ∙ padded-byte (nextCube circuit state) i longestCube
+
+  pub reach-stored : Settled c words state t → (held next b b′ : List ℕ) (len : ℕ) → len ≡ cubeBytes (c .latches)
+      → next ≡ over (pack (literalValues (valuesOf t) words 0 2 (c .latches))) (replicate longestCube 0) → b′ ≡ paste b 0 (keptBytes len held next) len
+      → b′ ≡ paste b 0 (keptBytes (cubeBytes (c .latches)) held (pack (nextCube circuit state))) (cubeBytes (c .latches))
+  reach-stored settled held next b b′ len el en eb =
+      eb ∙ rw (el, next-packed settled _ next en, kept-padded (cubeBytes (c .latches)) held (nextCube circuit state))
 
   -- ---- the lamps that are stored from a pass
 

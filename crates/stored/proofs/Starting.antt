@@ -9,10 +9,6 @@ use Rattle.circuit.specs.declared.Counts.{Counts}
 use Rattle.circuit.specs.Table.{circuitOf}
 use Rattle.cubes.specs.Run.{startField, resets, start}
 use Rattle.stored.specs.CubesInCode.{startFields}
-use Rattle.three.specs.Lists.{over}
-use Rattle.three.specs.Record.{pack}
-use Rattle.cubes.specs.Buffer.{packCube}
-use Rattle.cubes.proofs.StoredCube.{cube-pack}
 
 pub start-fields : (c : Counts) (words : List ℕ) → start (circuitOf c words) ≡ startFields words (c .latches)
 unfolding start resets startFields circuitOf
@@ -47,7 +43,3 @@ module _ (words : List ℕ) (count : ℕ) where
         go zero y z = absurd (y refl)
         go (suc zero) y z = absurd (z refl)
         go (suc (suc n)) y z = unfold startField code in refl
-
-  -- cube 0, stored as a record of its fields
-  pub start-stored : (d : List ℕ) → over (pack (startFields words count)) d ≡ over (packCube (startFields words count)) d
-  start-stored d = ap (λ (l : List ℕ). over l d) (sym (cube-pack _))

@@ -13,11 +13,16 @@ use Rattle.circuit.specs.Circuit.{settle}
 use Rattle.circuit.specs.Table.{circuitOf}
 use Rattle.pass.specs.ValuesInCode.{Begins}
 use Rattle.cubes.specs.Run.{startField, switchesUnknown}
+use Rattle.cubes.specs.BufferInCode.{raisedByte}
 use Rattle.cubes.specs.HeldInCode.{keptByte}
 
 -- the fields of cube 0, from the table's words
 unfoldable pub startFields : List ℕ → ℕ → Cube
 startFields words count = tabulate count (λ i. startField (getD words (2 * i + 1) 0))
+
+-- the len bytes of a cube's record: its mark, and its latches, which are given as a record, moved up by one field
+unfoldable pub raisedBytes : ℕ → ℕ → List ℕ → List ℕ
+raisedBytes len mark latches = tabulate len (λ i. raisedByte (getD (mark ∷ latches) i 0) (getD latches i 0))
 
 -- len bytes of b with the held latches set to X
 unfoldable pub keptBytes : ℕ → List ℕ → List ℕ → List ℕ

@@ -9,7 +9,7 @@ use Rattle.stored.proofs.cubes_refusal.Statement.{statement}
 use Rattle.stored.proofs.cubes_refusal.Tie as tie
 
 cube-bytes-requires : tie.Need-cube-bytes-requires
-cube-bytes-requires c κs = search needs
+cube-bytes-requires c κs = c .before .pre .latches
 
 div-if1 : tie.Need-div-if1
 div-if1 c = omega (arith, c .cube-bytes .ensures, some-bytes (c .before .before .args .counts .latches))

@@ -3,7 +3,7 @@ use Prim.Native.Nat.{_-_}
 use Rattle.three.proofs.Loops.{Tried, tried-first, tried-next, tried-fails, tried-all}
 use Rattle.cubes.specs.Buffer.{soundIn}
 use borrow.Author.Tests.{not-true, not-false}
-use Rattle.stored.proofs.Judged.{judged-place, judged-part, judged-cube}
+use Rattle.stored.proofs.Judged.{judged-place, judged-cube}
 use native.Mathlib.Omega.{arith}
 use Rattle.stored.proofs.cubes_sound.Statement.{statement}
 use Rattle.stored.proofs.cubes_sound.Tie as tie
@@ -15,7 +15,7 @@ abbrev μ-loop : tie.MeasureT-loop
 μ-loop latches cubes n len known k₀ k = n - k
 
 cube-bytes-requires : tie.Need-cube-bytes-requires Inv-loop μ-loop
-cube-bytes-requires c κs = tt
+cube-bytes-requires c κs = c .before .pre .0
 
 known-table-requires : tie.Need-known-table-requires Inv-loop μ-loop
 known-table-requires c κs = tt
@@ -23,31 +23,20 @@ known-table-requires c κs = tt
 loop-holds : tie.Need-loop-holds Inv-loop μ-loop
 loop-holds c = tried-first _ _
 
-mul-sound : tie.Need-mul-sound Inv-loop μ-loop
-mul-sound c =
+mul-cube-sound : tie.Need-mul-cube-sound Inv-loop μ-loop
+mul-cube-sound c =
     let start = c .before .before .before .before .before .before in
     omega (arith, judged-place _ _ (start .args .cubes .now) (start .pre .1) _ (c .before .before .before .before .cube-bytes .ensures) _ (c .before .loop-test .taken), start .good)
 
-sub-sound : tie.Need-sub-sound Inv-loop μ-loop
-sub-sound c =
+cube-sound-requires : tie.Need-cube-sound-requires Inv-loop μ-loop
+cube-sound-requires c κs =
     let start = c .before .before .before .before .before .before in
-    omega (arith, judged-place _ _ (start .args .cubes .now) (start .pre .1) _ (c .before .before .before .before .cube-bytes .ensures) _ (c .before .loop-test .taken), start .good)
-
-part-sound-start : tie.Need-part-sound-start Inv-loop μ-loop
-part-sound-start c =
-    let start = c .before .before .before .before .before .before in
-    omega (arith, judged-place _ _ (start .args .cubes .now) (start .pre .1) _ (c .before .before .before .before .cube-bytes .ensures) _ (c .before .loop-test .taken), start .good)
-
-part-sound-end : tie.Need-part-sound-end Inv-loop μ-loop
-part-sound-end c =
-    let start = c .before .before .before .before .before .before in
-    omega (arith, judged-place _ _ (start .args .cubes .now) (start .pre .1) _ (c .before .before .before .before .cube-bytes .ensures) _ (c .before .loop-test .taken), start .good)
-
-sound-requires : tie.Need-sound-requires Inv-loop μ-loop
-sound-requires c κs = (c .before .before .before .before .known-table .ensures, omega arith, judged-part _ _ (c .before .before .before .before .before .before .before .args .cubes .now) (c .before .before .before .before .before .before .before .pre .1) _ (c .before .before .before .before .before .cube-bytes .ensures) _ (c .before .before .loop-test .taken))
+    (c .before .before .before .known-table .ensures, start .pre .0, judged-place _ _ (start .args .cubes .now) (start .pre .1) _ (c .before .before .before .before .cube-bytes .ensures) _ (c .before .loop-test .taken))
 
 returns : tie.Need-returns Inv-loop μ-loop
-returns c = tried-fails _ _ (c .before .before .before .before .loop-test .taken) (judged-cube _ _ _ (c .before .before .before .before .before .before .before .before .before .pre .1) _ (c .before .before .before .before .before .before .before .cube-bytes .ensures) _ (c .before .sound .ensures)) (not-true _ (c .if1 .taken))
+returns c =
+    let start = c .before .before .before .before .before .before .before .before in
+    tried-fails _ _ (c .before .before .before .loop-test .taken) (judged-cube _ _ _ (start .pre .1) _ (c .before .before .before .before .before .before .cube-bytes .ensures) _ (c .before .cube-sound .ensures)) (not-true _ (c .if1 .taken))
 
 add-k : tie.Need-add-k Inv-loop μ-loop
 add-k c = omega arith
@@ -56,7 +45,9 @@ loop-less : tie.Need-loop-less Inv-loop μ-loop
 loop-less c = omega arith
 
 loop-again : tie.Need-loop-again Inv-loop μ-loop
-loop-again c = tried-next _ _ (c .before .before .before .before .before .loop .inv) (c .before .before .before .before .loop-test .taken) (judged-cube _ _ _ (c .before .before .before .before .before .before .before .before .before .pre .1) _ (c .before .before .before .before .before .before .before .cube-bytes .ensures) _ (c .before .sound .ensures)) (not-false _ (c .if1 .left))
+loop-again c =
+    let start = c .before .before .before .before .before .before .before .before in
+    tried-next _ _ (c .before .before .before .before .loop .inv) (c .before .before .before .loop-test .taken) (judged-cube _ _ _ (start .pre .1) _ (c .before .before .before .before .before .before .cube-bytes .ensures) _ (c .before .cube-sound .ensures)) (not-false _ (c .if1 .left))
 
 returns-2 : tie.Need-returns-2 Inv-loop μ-loop
 returns-2 c = tried-all _ _ (c .before .loop .inv) (c .loop-test .left)
@@ -70,11 +61,8 @@ cubes-sound-spec =
     cube-bytes-requires
     known-table-requires
     loop-holds
-    mul-sound
-    sub-sound
-    part-sound-start
-    part-sound-end
-    sound-requires
+    mul-cube-sound
+    cube-sound-requires
     returns
     add-k
     loop-less
