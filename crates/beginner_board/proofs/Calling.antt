@@ -9,7 +9,7 @@ use Rattle.circuit.proofs.Refusals.{refused-old, accepted-new}
 use Rattle.chain.specs.declared.Chain.{Chain}
 use Rattle.chain.specs.ChainInCode.{ChainMade}
 use Rattle.cubes.specs.Run.{cubeAt}
-use Rattle.cubes.specs.Buffer.{packCubes}
+use Rattle.cubes.specs.Buffer.{packCubes, marked}
 use Rattle.cubes.specs.Chain.{circuitIn, outcomeIn, cubesIn, backIn}
 use Rattle.beginners.specs.Calls.{chainBeginnersTests, BoardGiven, refusedBy, unwidened, ChainedBeginners}
 
@@ -30,9 +30,9 @@ module _ (g : BoardGiven) where
     unfolding refusedBy
     ok = sym none
 
-    filled : cubes ≡ over (packCubes (cubeAt (circuitIn (unwidened g)) 0) (cubesIn (unwidened g))) (g .cubes)
+    filled : cubes ≡ over (packCubes (marked 0) (cubeAt (circuitIn (unwidened g)) 0) (cubesIn (unwidened g))) (g .cubes)
     unfolding outcomeIn circuitIn cubesIn
-    filled = made .fills ∙ ap (λ (n : ℕ). over (packCubes (cubeAt (circuitIn (unwidened g)) 0) n) (g .cubes)) (made .counts)
+    filled = made .fills ∙ ap (λ (n : ℕ). over (packCubes (marked 0) (cubeAt (circuitIn (unwidened g)) 0) n) (g .cubes)) (made .counts)
 
     pub run-made : ChainedBeginners g (record { number = 0; cubes = r .count; back = r .back }) cubes
     unfolding outcomeIn circuitIn cubesIn backIn

@@ -13,7 +13,7 @@ use Rattle.text.specs.Text.{Content}
 use Rattle.text.specs.Calls.{readInto, ReadBy}
 use Rattle.cubes.specs.declared.ChainAnswer.{ChainAnswer}
 use Rattle.cubes.specs.Run.{cubeAt}
-use Rattle.cubes.specs.Buffer.{packCubes}
+use Rattle.cubes.specs.Buffer.{packCubes, marked}
 use Rattle.cubes.specs.Chain.{ChainGiven, circuitIn, cubesIn, backIn}
 use Rattle.beginners.specs.Rules.{beginnersTests}
 
@@ -56,4 +56,4 @@ pub record ChainedBeginners (g : BoardGiven) (r : ChainAnswer) (cubes : List ℕ
   pub answers : r .number ≡ refusedBy g
   pub counts : r .cubes ≡ leftBy (refusedBy g) (cubesIn (unwidened g)) 0
   pub goes-back : r .back ≡ leftBy (refusedBy g) (backIn (unwidened g)) 0
-  pub fills-cubes : cubes ≡ leftBy (refusedBy g) (over (packCubes (cubeAt (circuitIn (unwidened g)) 0) (cubesIn (unwidened g))) (g .cubes)) (g .cubes)
+  pub fills-cubes : cubes ≡ leftBy (refusedBy g) (over (packCubes (marked 0) (cubeAt (circuitIn (unwidened g)) 0) (cubesIn (unwidened g))) (g .cubes)) (g .cubes)

@@ -1,7 +1,7 @@
 -- Beginners' boards, computed: texts and tables inside the rules and just outside, and the order of the refusals. Assumes nothing.
 use mathlib.Core.Path.{_≡_, refl}
 use mathlib.Core.List.{List, [], _∷_}
-use Prim.Native.Nat.{ℕ}
+use Prim.Native.Nat.{ℕ, _/_, _^_}
 use Prim.Native.String.{String}
 use Rattle.three.specs.Lists.{every, over}
 use Rattle.circuit.specs.declared.Counts.{Counts}
@@ -13,6 +13,7 @@ use Rattle.text.specs.Outcome.{numberOf, tested, further, onward, leaves}
 use Rattle.text.specs.Text.{fits, owns, resetWord, words, lineTests, ends, readLines, firstLine, countsOf, headerTests, readOpened, endingOf, readText}
 use Rattle.text.specs.Calls.{intoTable}
 use Rattle.text.specs.Bench.{bytes}
+use Rattle.cubes.specs.Buffer.{cubeBytes}
 use Rattle.beginners.specs.Rules.{smallTests, varies, wellFed, feedTests, beginnersTests}
 use Rattle.beginners.specs.Calls.{readBeginners, bufferTests, chainBeginnersTests}
 
@@ -24,6 +25,11 @@ reads text table = numberOf (readBeginners (bytes text) table) ∷ leaves (λ c.
 unfoldable pub answers : Counts → List ℕ → ℕ → ℕ
 unfolding every refusal allHold ceilingTests lampTests several kinds width rowTests literalTests operandTests tableTests wordTests boardTests smallTests varies wellFed feedTests beginnersTests bufferTests chainBeginnersTests
 answers c table cubes = refusal (chainBeginnersTests c table cubes)
+
+-- with 9 fields a cube takes 3 bytes, so 19,683 bytes hold 6,561, which is 3 to the power 8
+pub eight-latches : (cubeBytes 8 ≡ 3) × (19683 / cubeBytes 8 ≡ 3 ^ 8)
+unfolding cubeBytes
+eight-latches = (refl, refl)
 
 -- T; a latch without a start value; four switches; two operands that are two variables
 pub accepts : (reads "aag 1 0 1 1 0/2 3/2/" (9 ∷ 9 ∷ 9 ∷ 9 ∷ []) ≡ 0 ∷ 3 ∷ 0 ∷ 2 ∷ 9 ∷ [])

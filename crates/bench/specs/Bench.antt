@@ -30,23 +30,24 @@ C· = "aag 5 0 2 1 3/2 3/4 11/10/6 4 3/8 5 2/10 9 7/"
 abbrev U· : String
 U· = "aag 2 0 2 1 0/2 0 2/4 2/4/"
 
--- in the document's order; all but the case of no counts, U and the refusal 6 are starred. Of a text without lamps the reading is said, and its run is refused (request 2)
+-- in the document's order; all but the case of no counts, U and the refusal 6 are starred. Of a text without lamps the reading is said, and its run is refused (request 2).
+-- Cubes stand with their marks in front (request 8)
 unfoldable pub cases : List Case
 cases =
-    closes T· 0 (cubes (0x40 ∷ 0x80 ∷ []) ∷ n 2 ∷ j 0 ∷ s 0 ∷ verdict (0x00 ∷ []) ∷ [])
-    ∷ closes T· 1 (cubes (0x40 ∷ 0x00 ∷ []) ∷ n 2 ∷ j 1 ∷ [])
-    ∷ closes H· 0 (cubes (0x40 ∷ 0x00 ∷ []) ∷ n 2 ∷ j 1 ∷ verdict (0x00 ∷ []) ∷ [])
-    ∷ closes K· 0 (cubes (0x00 ∷ []) ∷ n 1 ∷ j 0 ∷ verdict (0x00 ∷ []) ∷ [])
-    ∷ closes S· 0 (cubes (0x60 ∷ 0x90 ∷ []) ∷ n 2 ∷ j 0 ∷ verdict (0x40 ∷ []) ∷ [])
-    ∷ closes S· 1 (cubes (0x60 ∷ 0x00 ∷ []) ∷ n 2 ∷ j 1 ∷ verdict (0x00 ∷ []) ∷ [])
-    ∷ closes E· 0 (cubes (0x40 ∷ 0x80 ∷ []) ∷ n 2 ∷ j 1 ∷ s 1 ∷ settled (0x80 ∷ []) ∷ verdict (0x00 ∷ []) ∷ [])
-    ∷ runs E· 0 1 (number 15 ∷ n 1 ∷ j 0 ∷ s 0 ∷ cubes (0x40 ∷ []) ∷ verdict [] ∷ settled [] ∷ [])
-    ∷ closes C· 0 (cubes (0x50 ∷ 0x90 ∷ 0x60 ∷ 0xA0 ∷ []) ∷ n 4 ∷ j 0 ∷ [])
-    ∷ closes C· 2 (cubes (0x50 ∷ 0x90 ∷ 0x00 ∷ []) ∷ n 3 ∷ j 2 ∷ [])
-    ∷ closes C· 3 (cubes (0x50 ∷ 0x90 ∷ 0x60 ∷ 0x20 ∷ 0x00 ∷ []) ∷ n 5 ∷ j 4 ∷ [])
+    closes T· 0 (cubes (0x50 ∷ 0x60 ∷ []) ∷ n 2 ∷ j 0 ∷ s 0 ∷ verdict (0x00 ∷ []) ∷ [])
+    ∷ closes T· 1 (cubes (0x50 ∷ 0x80 ∷ []) ∷ n 2 ∷ j 1 ∷ [])
+    ∷ closes H· 0 (cubes (0x50 ∷ 0x40 ∷ []) ∷ n 2 ∷ j 1 ∷ verdict (0x00 ∷ []) ∷ [])
+    ∷ closes K· 0 (cubes (0x40 ∷ []) ∷ n 1 ∷ j 0 ∷ verdict (0x00 ∷ []) ∷ [])
+    ∷ closes S· 0 (cubes (0x58 ∷ 0x64 ∷ []) ∷ n 2 ∷ j 0 ∷ verdict (0x40 ∷ []) ∷ [])
+    ∷ closes S· 1 (cubes (0x58 ∷ 0x80 ∷ []) ∷ n 2 ∷ j 1 ∷ verdict (0x00 ∷ []) ∷ [])
+    ∷ closes E· 0 (cubes (0x50 ∷ 0x60 ∷ []) ∷ n 2 ∷ j 1 ∷ s 1 ∷ settled (0x80 ∷ []) ∷ verdict (0x00 ∷ []) ∷ [])
+    ∷ runs E· 0 1 (number 15 ∷ n 1 ∷ j 0 ∷ s 0 ∷ cubes (0x50 ∷ []) ∷ verdict [] ∷ settled [] ∷ [])
+    ∷ closes C· 0 (cubes (0x54 ∷ 0x64 ∷ 0x58 ∷ 0x68 ∷ []) ∷ n 4 ∷ j 0 ∷ [])
+    ∷ closes C· 2 (cubes (0x54 ∷ 0x64 ∷ 0x80 ∷ []) ∷ n 3 ∷ j 2 ∷ [])
+    ∷ closes C· 3 (cubes (0x54 ∷ 0x64 ∷ 0x58 ∷ 0x88 ∷ 0x40 ∷ []) ∷ n 5 ∷ j 4 ∷ [])
     ∷ runs "aag 0 0 0 0 0/" 0 100 (number 16 ∷ n 0 ∷ j 0 ∷ s 0 ∷ cubes [] ∷ verdict [] ∷ settled [] ∷ [])
     ∷ runs "aag 1 0 1 0 0/2 2 2/" 0 100 (number 16 ∷ n 0 ∷ j 0 ∷ s 0 ∷ cubes [] ∷ verdict [] ∷ settled [] ∷ [])
-    ∷ closes U· 0 (cubes (0x10 ∷ 0x40 ∷ []) ∷ n 2 ∷ j 0 ∷ s 0 ∷ verdict (0x00 ∷ []) ∷ [])
+    ∷ closes U· 0 (cubes (0x44 ∷ 0x50 ∷ []) ∷ n 2 ∷ j 0 ∷ s 0 ∷ verdict (0x00 ∷ []) ∷ [])
     ∷ refuses "aag 2 1 0 0 1/2/4 4 2/" 7
     ∷ refuses "aag 2 1 0 0 1/2/4 6 2/" 6
     ∷ []

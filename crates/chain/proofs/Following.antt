@@ -5,72 +5,70 @@ use mathlib.Core.List.{List}
 use Prim.Native.Nat.{ℕ, suc, _+_, _*_, _-_, _<_, _≤_}
 use native.Mathlib.Nat.{suc-mul, one-mul, mul-comm, mul-le-mul-right, add-sub-of-le, div-mul-le-self, le-div-iff-mul-le}
 use native.Mathlib.Omega.{arith}
-use lib.ListN.{length, drop, replicate}
+use lib.ListN.{length, replicate}
 use lib.Seq.{paste, length-paste}
 use Rattle.three.specs.Lists.{first}
+use Rattle.three.specs.Record.{pack, unpack}
+use Rattle.three.specs.RecordInCode.{IsRecord}
 use Rattle.circuit.specs.declared.Counts.{Counts}
 use Rattle.circuit.specs.Table.{circuitOf}
 use Rattle.chain.specs.declared.Progress.{Progress}
 use Rattle.cubes.specs.Run.{due, nextCube, stops, full, run}
-use Rattle.stored.specs.CubesInCode.{keptBytes, coversFrom, SwitchesX}
+use Rattle.stored.specs.CubesInCode.{raisedBytes, keptBytes, coversFrom, SwitchesX}
 use Rattle.cubes.specs.Chain.{roomIn, storedCubes, backTo}
 use Rattle.chain.specs.ChainInCode.{Advanced, ChainMade, Followable}
 use Rattle.cubes.specs.OutcomesInCode.{hasStopped}
 use Rattle.stored.proofs.Keeping.{length-kept}
-use Rattle.chain.proofs.Chaining.{Going, Reached, same-length, all-fits, last-at, last-record, reached-b, closes-at, goes-on, going-first}
+use Rattle.chain.proofs.Chaining.{Going, Reached, same-length, all-fits, last-record, reached-b, closes-at, goes-on, going-first}
 use Rattle.chain.proofs.Advancing.{going-next}
-use Rattle.cubes.specs.Buffer.{cubeBytes, packCube, cubeOf}
-use Rattle.cubes.specs.BufferInCode.{longestCube, IsCube}
+use Rattle.cubes.specs.Buffer.{cubeBytes}
+use Rattle.cubes.specs.BufferInCode.{longestCube}
 use Rattle.cubes.proofs.StoredCube.{some-bytes as cube-some, few-bytes as cube-few}
 use Rattle.cubes.proofs.Steps.{run-stays}
 
-module _ (c : Counts) (words : List ℕ) (w len room : ℕ) (buffer : List ℕ) where
+module _ (c : Counts) (words : List ℕ) (w len room : ℕ) (start buffer : List ℕ) where
   -- the loop's invariant
-  pub record Turn (count : ℕ) (held cubes values b : List ℕ) : Type 0 where
-    pub given : Followable c words len room buffer
-    pub going : Going c words w buffer count held cubes values
+  pub record Turn (count : ℕ) (held state cubes values b : List ℕ) : Type 0 where
+    pub given : Followable c words len room start buffer
+    pub going : Going c words w buffer count held state cubes values
     pub within : count ≤ room
     pub long : length b ≡ longestCube
 
-  module _ {count : ℕ} {held cubes values b : List ℕ} (t : Turn count held cubes values b) where
-    abbrev g : Going c words w buffer count held cubes values
+  module _ {count : ℕ} {held state cubes values b : List ℕ} (t : Turn count held state cubes values b) where
+    abbrev g : Going c words w buffer count held state cubes values
     g = t .going
 
-    abbrev f : Followable c words len room buffer
+    abbrev f : Followable c words len room start buffer
     f = t .given
 
-    pub few-bytes : len ≤ longestCube
-    few-bytes = omega (arith, f .size, cube-few (f .legal .bounded .latches))
+    pub few-latches : c .latches ≤ 512
+    few-latches = f .legal .bounded .latches
 
-    pub some-cubes : 1 ≤ count
+    pub few-bytes : len ≤ longestCube
+    few-bytes = omega (arith, f .size, cube-few few-latches)
+
+    some-cubes : 1 ≤ count
     some-cubes = omega (arith, g .counts)
 
     pub cubes-fit : count * len ≤ length cubes
     cubes-fit = rw (f .size) (all-fits c words w buffer g)
 
-    pub place-fits : (count - 1) * len ≤ length cubes
-    place-fits = let less : count - 1 ≤ count = omega arith in omega (arith, mul-le-mul-right len less, cubes-fit)
-
     pub kept-length : length cubes ≡ length buffer
     kept-length = same-length c words w buffer g
 
-    pub place-small : (count - 1) * len ≤ 65536
-    place-small = omega (arith, place-fits, kept-length, f .small)
-
-    pub place-record : IsCube (c .latches) (drop ((count - 1) * len) cubes)
-    place-record = rw (f .size, last-at c words w buffer g) (last-record c words w buffer g)
+    pub state-record : IsRecord (c .latches) state
+    state-record = last-record c words w buffer g few-latches
 
     -- what `reach` leaves
-    pub reached : (b′ : List ℕ) → b′ ≡ paste b 0 (keptBytes (cubeBytes (c .latches)) held (packCube (nextCube (circuitOf c words) (cubeOf (c .latches) (drop ((count - 1) * len) cubes))))) (cubeBytes (c .latches))
-        → Reached c words w buffer g b′
-    reached b′ e = reached-b c words w buffer g b b′ (rw (f .size, last-at c words w buffer g) at e)
+    pub reached : (b′ : List ℕ) → b′ ≡ paste b 0 (keptBytes (cubeBytes (c .latches)) held (pack (nextCube (circuitOf c words) (unpack (c .latches) state)))) (cubeBytes (c .latches)) → Reached c words w buffer g b′
+    reached b′ e = reached-b c words w buffer g few-latches b b′ e
 
     pub reached-long : (next b′ : List ℕ) → b′ ≡ paste b 0 (keptBytes (cubeBytes (c .latches)) held next) (cubeBytes (c .latches)) → length b′ ≡ longestCube
     reached-long next b′ e =
         ap length e ∙ length-paste b 0 _ (cubeBytes (c .latches)) (omega (arith, few-bytes, f .size, t .long)) (omega (arith, length-kept (cubeBytes (c .latches)) held next)) ∙ t .long
 
-    module _ (b′ : List ℕ) (r : Reached c words w buffer g b′) (back : ℕ) (sought : back ≡ first count (λ k. coversFrom len cubes b′ (k * len))) where
-      sought′ : back ≡ first count (λ k. coversFrom (cubeBytes (c .latches)) cubes b′ (k * cubeBytes (c .latches)))
+    module _ (b′ : List ℕ) (r : Reached c words w buffer g b′) (back : ℕ) (sought : back ≡ first count (λ k. coversFrom len cubes (raisedBytes len 3 b′) (k * len))) where
+      sought′ : back ≡ first count (λ k. coversFrom (cubeBytes (c .latches)) cubes (raisedBytes (cubeBytes (c .latches)) 3 b′) (k * cubeBytes (c .latches)))
       sought′ = rw (f .size) at sought
 
       -- the run is closed
@@ -109,20 +107,20 @@ module _ (c : Counts) (words : List ℕ) (w len room : ℕ) (buffer : List ℕ) 
         pub next-fits-now : count * len + len ≤ length cubes
         next-fits-now = omega (arith, next-fits, kept-length)
 
-        pub turn-next : (after : Progress) (cubes′ values′ : List ℕ) → Advanced (due w count) len (record { count = count; held = held }) cubes b′ after cubes′ → SwitchesX c values′ → length b′ ≡ longestCube
-            → Turn (after .count) (after .held) cubes′ values′ b′
+        pub turn-next : (after : Progress) (cubes′ values′ : List ℕ) → Advanced (due w count) len (record { count = count; held = held; last = state }) cubes b′ after cubes′ → SwitchesX c values′ → length b′ ≡ longestCube
+            → Turn (after .count) (after .held) (after .last) cubes′ values′ b′
         turn-next after cubes′ values′ a ready long′ = record {
           given = f;
-          going = going-next c words w buffer g b′ r (due w count) refl (open-yet h) after cubes′ (rw (f .size) at a) values′ ready (rw (f .size) at next-fits);
+          going = going-next c words w buffer g b′ r (due w count) refl (open-yet h) after cubes′ (rw (f .size) at a) few-latches values′ ready (rw (f .size) at next-fits);
           within = omega (arith, a .counts, t .within);
           long = long′;
         }
 
-  pub turn-first : Followable c words len room buffer → (values b : List ℕ) → SwitchesX c values → length b ≡ longestCube → Turn 1 (replicate longestCube 0) buffer values b
+  pub turn-first : Followable c words len room start buffer → (values b : List ℕ) → SwitchesX c values → length b ≡ longestCube → Turn 1 (replicate longestCube 0) start buffer values b
   unfolding roomIn
   turn-first f values b r l = record {
     given = f;
-    going = going-first c words w buffer buffer values (f .legal .bounded .latches) (f .one) (f .begun) r;
+    going = going-first c words w buffer start buffer values (f .legal .bounded .latches) (f .one) (f .starts) (f .begun) r;
     within = rw (f .has-room) (le-div-iff-mul-le {k = cubeBytes (c .latches)} (cube-some (c .latches)) .1 (omega (arith, one-mul (cubeBytes (c .latches)), f .one)));
     long = l;
   }

@@ -7,10 +7,12 @@ use native.Mathlib.Nat.{zero-add}
 use native.Mathlib.Omega.{arith}
 use lib.Bits.{bitOr, bitXor, and-le-r}
 use lib.Dec.{eqb}
-use lib.ListN.{length, getD, set, drop}
-use lib.Seq.{paste, getD-drop}
+use lib.ListN.{length, getD, set}
+use lib.Seq.{paste}
+use Rattle.three.specs.Value.{code, known}
 use Rattle.three.proofs.Loops.{Stored, stored-next, getD-paste}
 use Rattle.three.proofs.Lists.{length-tabulate, getD-tabulate}
+use Rattle.stored.specs.CubesInCode.{raisedBytes}
 use Rattle.cubes.specs.HeldInCode.{differingByte}
 use Rattle.cubes.specs.Run.{due}
 use Rattle.chain.specs.ChainInCode.{widenedBytes, heldAfter}
@@ -26,26 +28,40 @@ unfolding due
 due-divides zero k h = absurd (h refl)
 due-divides (suc w) k h = refl
 
+-- ---- its mark
+
+pub mark-due : {d : Bool} → d ≡ true → 2 ≡ code (known d)
+unfolding known code
+mark-due e = rw e
+
+pub mark-plain : {d : Bool} → d ≡ false → 1 ≡ code (known d)
+unfolding known code
+mark-plain e = rw e
+
+pub stored-marked : {d e : Bool} {m : ℕ} (cubes cubes′ : List ℕ) (at len : ℕ) (last : List ℕ) → cubes′ ≡ paste cubes at (raisedBytes len m last) len → m ≡ code (known d) → d ≡ e
+    → cubes′ ≡ paste cubes at (raisedBytes len (code (known e)) last) len
+stored-marked cubes cubes′ at len last s em ed = s ∙ ap (λ (m : ℕ). paste cubes at (raisedBytes len m last) len) (em ∙ ap (λ (d : Bool). code (known d)) ed)
+
 -- ---- the loops
 
 pub differing-small : (x y : ℕ) → differingByte x y < 256
 unfolding differingByte
 differing-small x y = omega (arith, and-le-r (bitOr (bitXor x y) (bitXor x y / 2)) 85)
 
-module _ (len : ℕ) (held cubes : List ℕ) (at : ℕ) (b : List ℕ) where
+module _ (len : ℕ) (held last b : List ℕ) where
   abbrev wide : List ℕ
-  wide = widenedBytes len held (drop at cubes) b
+  wide = widenedBytes len held last b
 
   length-wide : length wide ≡ len
   unfolding widenedBytes
   length-wide = length-tabulate len _
 
   pub widen-next : len ≤ length held → (wider : List ℕ) (i d : ℕ) → Stored held 0 wide len wider i → i < len
-      → d ≡ differingByte (getD cubes (at + i) 0) (getD b i 0) → Stored held 0 wide len (set wider i (bitOr (getD wider i 0) d)) (i + 1)
+      → d ≡ differingByte (getD last i 0) (getD b i 0) → Stored held 0 wide len (set wider i (bitOr (getD wider i 0) d)) (i + 1)
   unfolding widenedBytes
   widen-next room wider i d s h e =
       let kept : getD wider i 0 ≡ getD held i 0 = ap (λ l. getD l i 0) (s .same) ∙ getD-paste held 0 wide i i 0 (omega arith) (omega (arith, length-wide)) (omega arith) in
-      let seen : bitOr (getD wider i 0) d ≡ getD wide i 0 = rw (kept, e, ← getD-drop at cubes i 0) (sym (getD-tabulate len _ i 0 h)) in
+      let seen : bitOr (getD wider i 0) d ≡ getD wide i 0 = rw (kept, e) (sym (getD-tabulate len _ i 0 h)) in
       rw zero-add at (stored-next held 0 wide len (omega arith) (omega (arith, length-wide)) wider i (bitOr (getD wider i 0) d) 0 s h seen)
 
 -- ---- more latches held, or the same

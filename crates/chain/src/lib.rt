@@ -4,14 +4,14 @@ use stored::LONGEST_CUBE;
 ghost use mathlib.Core.Path.{_≡_};
 ghost use mathlib.Core.Bool.{true};
 ghost use Prim.Native.Nat.{_+_, _*_, _-_, _<_, _≤_};
-ghost use lib.ListN.{length, drop};
+ghost use lib.ListN.{length};
 ghost use lib.Seq.{paste};
 ghost use Rattle.circuit.specs.RulesInCode.{Legal};
 ghost use Rattle.cubes.specs.Run.{due as isDue};
 ghost use Rattle.cubes.specs.Buffer.{cubeBytes};
 ghost use Rattle.cubes.specs.BufferInCode.{longestCube};
 ghost use Rattle.cubes.specs.HeldInCode.{differingByte};
-ghost use Rattle.three.specs.Lists.{first};
+ghost use Rattle.three.specs.Value.{code, known};
 ghost use Rattle.chain.specs.ChainInCode.{heldAfter, widenedBytes, Advanced, Followable, ChainMade};
 
 // If w is not 0 and divides k.
@@ -32,20 +32,19 @@ fn differing(a: u8, b: u8) -> u8
     3 * ((z | (z / 2)) & 85)
 }
 
-// Holds every latch too whose value in the cube at byte `at` and in b differs.
+// Holds every latch too whose value in the last cube a and in b differs.
 fn widen(
     held: [u8; LONGEST_CUBE],
-    cubes: &[u8],
-    at: usize,
+    a: [u8; LONGEST_CUBE],
     b: &[u8],
     len: usize,
 ) -> [u8; LONGEST_CUBE]
-    requires { ⌜ (len ≤ longestCube) × (at + len ≤ length (now cubes)) × (len ≤ length (now b)) ⌝ }
-    ensures { λ r. ⌜ r ≡ paste held 0 (widenedBytes len held (drop at (now (cubes .entry))) (now (b .entry))) len ⌝ }
+    requires { ⌜ (len ≤ longestCube) × (len ≤ length (now b)) ⌝ }
+    ensures { λ r. ⌜ r ≡ paste held 0 (widenedBytes len held a (now (b .entry))) len ⌝ }
 {
     let mut wider = held;
     for i in 0..len {
-        wider[i] = wider[i] | differing(cubes[at + i], b[i]);
+        wider[i] = wider[i] | differing(a[i], b[i]);
     }
     wider
 }
@@ -54,38 +53,51 @@ fn widen(
 fn held_after(
     d: bool,
     held: [u8; LONGEST_CUBE],
-    cubes: &[u8],
-    at: usize,
+    a: [u8; LONGEST_CUBE],
     b: &[u8],
     len: usize,
 ) -> [u8; LONGEST_CUBE]
-    requires { ⌜ (len ≤ longestCube) × (at + len ≤ length (now cubes)) × (len ≤ length (now b)) ⌝ }
-    ensures { λ r. ⌜ r ≡ heldAfter d len held (drop at (now (cubes .entry))) (now (b .entry)) ⌝ }
+    requires { ⌜ (len ≤ longestCube) × (len ≤ length (now b)) ⌝ }
+    ensures { λ r. ⌜ r ≡ heldAfter d len held a (now (b .entry)) ⌝ }
 {
     if !d {
         return held;
     }
-    widen(held, cubes, at, b, len)
+    widen(held, a, b, len)
 }
 
-// How many cubes are stored, which latches are held unknown.
+// The mark of a cube, due (widened, 10) or not (plain, 01).
+fn mark(d: bool) -> u8
+    ensures { λ r. ⌜ r ≡ code (known d) ⌝ }
+{
+    if d {
+        return 2;
+    }
+    1
+}
+
+// How many cubes are stored, which latches are held unknown, and the latches of the last cube as a record.
 pub struct Progress {
     pub count: usize,
     pub held: [u8; LONGEST_CUBE],
+    pub last: [u8; LONGEST_CUBE],
 }
 
 impl Progress {
     // Stores b as the next cube, widened first where it is due.
     fn advance(mut self, cubes: &mut [u8], len: usize, w: usize, b: &[u8]) -> Self
-        requires { ⌜ (1 ≤ self .count) × (self .count < 65536) × (len ≤ longestCube) × (self .count * len + len ≤ length (now cubes)) × (len ≤ length (now b)) ⌝ }
+        requires { ⌜ (self .count < 65536) × (len ≤ longestCube) × (self .count * len + len ≤ length (now cubes)) × (len ≤ length (now b)) × (length (self .last) ≡ longestCube) ⌝ }
         ensures { λ r. ⌜ Advanced (isDue w (self .count)) len self (now (cubes .entry)) (now (b .entry)) r (now (cubes .exit)) ⌝ }
     {
         let k = self.count;
-        let at = k * len;
+        let d = due(w, k);
         let held = self.held;
-        let wider = held_after(due(w, k), held, cubes, at - len, b, len);
+        let mut last = self.last;
+        let wider = held_after(d, held, last, b, len);
         self.held = wider;
-        stored::store_kept(b, wider, len, cubes, at);
+        stored::store_kept(b, wider, len, &mut last);
+        self.last = last;
+        stored::store_cube(mark(d), &last, len, cubes, k * len);
         self.count = k + 1;
         self
     }
@@ -98,16 +110,17 @@ pub struct Chain {
     pub back: usize,
 }
 
-// Goes on from cube 0, which stands in the buffer, to the cube that falls inside a stored one, or as far as there is room.
+// Goes on from cube 0, which stands in the buffer, and whose latches are `start`, to the cube that falls inside a stored one, or as far as there is room.
 fn follow(
     counts: Counts,
     table: &[u16],
     w: usize,
     len: usize,
     room: usize,
+    start: [u8; LONGEST_CUBE],
     cubes: &mut [u8],
 ) -> Chain
-    requires { ⌜ Followable counts (now table) len room (now cubes) ⌝ }
+    requires { ⌜ Followable counts (now table) len room start (now cubes) ⌝ }
     ensures { λ r. ⌜ ChainMade counts (now (table .entry)) w (now (cubes .entry)) r (now (cubes .exit)) ⌝ }
 {
     let mut values = pass::fresh_values();
@@ -115,20 +128,14 @@ fn follow(
     let mut progress = Progress {
         count: 1,
         held: [0u8; LONGEST_CUBE],
+        last: start,
     };
     loop {
         let count = progress.count;
         let held = progress.held;
-        stored::reach(
-            counts,
-            table,
-            cubes,
-            (count - 1) * len,
-            held,
-            &mut values,
-            &mut b,
-        );
-        let back = stored::search(cubes, len, count, &b);
+        let last = progress.last;
+        stored::reach(counts, table, &last, held, &mut values, &mut b);
+        let back = stored::find(cubes, len, count, &b);
         if back < count {
             return Chain {
                 stopped: true,
@@ -153,6 +160,8 @@ pub fn make_chain(counts: Counts, table: &[u16], w: usize, cubes: &mut [u8]) -> 
     ensures { λ r. ⌜ ChainMade counts (now (table .entry)) w (now (cubes .entry)) r (now (cubes .exit)) ⌝ }
 {
     let len = stored::cube_bytes(counts.latches);
-    stored::store_start(table, counts.latches, cubes);
-    follow(counts, table, w, len, cubes.len() / len, cubes)
+    let mut start = [0u8; LONGEST_CUBE];
+    stored::store_start(table, counts.latches, &mut start);
+    stored::store_cube(mark(false), &start, len, cubes, 0);
+    follow(counts, table, w, len, cubes.len() / len, start, cubes)
 }

@@ -11,7 +11,7 @@ use Rattle.circuit.proofs.Refusals.{refused-old, accepted-new}
 use Rattle.chain.specs.declared.Chain.{Chain}
 use Rattle.chain.specs.ChainInCode.{ChainMade}
 use Rattle.cubes.specs.Run.{cubeAt}
-use Rattle.cubes.specs.Buffer.{packCubes}
+use Rattle.cubes.specs.Buffer.{packCubes, marked}
 use Rattle.cubes.specs.Chain.{chainTests, ChainGiven, refusedBy, circuitIn, outcomeIn, cubesIn, backIn, Chained}
 use Rattle.cubes.proofs.Buffered.{full-is, stopped-number}
 
@@ -32,9 +32,9 @@ module _ (g : ChainGiven) where
     unfolding refusedBy
     ok = sym none
 
-    filled : cubes ≡ over (packCubes (cubeAt (circuitIn g) (g .w)) (cubesIn g)) (g .cubes)
+    filled : cubes ≡ over (packCubes (marked (g .w)) (cubeAt (circuitIn g) (g .w)) (cubesIn g)) (g .cubes)
     unfolding outcomeIn circuitIn cubesIn
-    filled = made .fills ∙ ap (λ (n : ℕ). over (packCubes (cubeAt (circuitIn g) (g .w)) n) (g .cubes)) (made .counts)
+    filled = made .fills ∙ ap (λ (n : ℕ). over (packCubes (marked (g .w)) (cubeAt (circuitIn g) (g .w)) n) (g .cubes)) (made .counts)
 
     pub chain-full : r .stopped ≡ false → Chained g (record { number = 15; cubes = r .count; back = 0 }) cubes
     unfolding outcomeIn circuitIn cubesIn backIn

@@ -1,6 +1,7 @@
 // What judging cubes in a buffer takes: their refusals, the lamps in a cube, the settled record (specification, 5.6 and 5.7).
 use circuit::Counts;
 use pass::Values;
+use stored::LONGEST_CUBE;
 ghost use mathlib.Core.Path.{_≡_};
 ghost use Prim.Native.Nat.{_+_, _*_, _-_, _<_, _≤_};
 ghost use lib.ListN.{length, drop};
@@ -11,11 +12,11 @@ ghost use Rattle.circuit.specs.Refusal.{refusal};
 ghost use Rattle.circuit.specs.Table.{circuitOf};
 ghost use Rattle.circuit.specs.RulesInCode.{Legal};
 ghost use Rattle.cubes.specs.Run.{lampsIn};
-ghost use Rattle.cubes.specs.Buffer.{cubeOf};
+ghost use Rattle.cubes.specs.Buffer.{cubeBytes, cubeOf};
 ghost use Rattle.cubes.specs.BufferInCode.{IsCube};
 ghost use Rattle.cubes.specs.GivenInCode.{givenTests};
 ghost use Rattle.stored.specs.CubesInCode.{SwitchesX, Settled};
-ghost use Rattle.judge.specs.JudgeInCode.{settledFrom, Settleable};
+ghost use Rattle.judge.specs.JudgeInCode.{mergedFields, settledFrom, Settleable};
 
 // The record of the most lamps.
 pub const LONGEST_LAMPS: usize = 16;
@@ -58,6 +59,17 @@ pub fn copy_record(cubes: &[u8], at: usize, len: usize, out: &mut [u8])
     }
 }
 
+// What cubes j to n − 1 know alike, into the front of `common`; their marks are merged as fields are.
+fn merge_cubes(latches: usize, cubes: &[u8], len: usize, n: usize, j: usize, common: &mut [u8])
+    requires { ⌜ Settleable latches len n j (now cubes) × (cubeBytes latches ≤ length (now common)) ⌝ }
+    ensures { λ _. ⌜ now (common .exit) ≡ over (pack (mergedFields latches (now (cubes .entry)) n j)) (now (common .entry)) ⌝ }
+{
+    copy_record(cubes, j * len, len, common);
+    for k in j + 1..n {
+        three::agree(common, &cubes[k * len..], latches + 1);
+    }
+}
+
 // Per latch the known value shared by cubes j to n − 1, else 00.
 pub fn settle_latches(
     latches: usize,
@@ -70,8 +82,7 @@ pub fn settle_latches(
     requires { ⌜ Settleable latches len n j (now cubes) × (bytesFor latches ≤ length (now settled)) ⌝ }
     ensures { λ _. ⌜ now (settled .exit) ≡ over (pack (settledFrom latches (now (cubes .entry)) n j)) (now (settled .entry)) ⌝ }
 {
-    copy_record(cubes, j * len, len, settled);
-    for k in j + 1..n {
-        three::agree(settled, &cubes[k * len..], latches);
-    }
+    let mut common = [0u8; LONGEST_CUBE];
+    merge_cubes(latches, cubes, len, n, j, &mut common);
+    stored::store_latches(latches, &common, 0, settled);
 }

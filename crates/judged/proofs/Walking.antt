@@ -5,10 +5,11 @@ use mathlib.Core.List.{List}
 use Prim.Native.Nat.{ℕ, _+_, _*_, _<_, _≤_}
 use native.Mathlib.Nat.{zero-add, zero-mul}
 use native.Mathlib.Omega.{arith}
-use lib.ListN.{length, getD, drop}
+use lib.ListN.{length, getD, drop, replicate}
+use lib.Seq.{paste}
 use Rattle.three.specs.Lists.{every, over}
 use Rattle.three.specs.Cube.{Cube, subsumes}
-use Rattle.three.specs.Record.{bytesFor, pack}
+use Rattle.three.specs.Record.{bytesFor, byteAt, pack}
 use Rattle.three.proofs.Lists.{every-all, every-fails}
 use Rattle.circuit.specs.declared.Counts.{Counts}
 use Rattle.circuit.specs.Circuit.{Circuit}
@@ -16,17 +17,20 @@ use Rattle.circuit.specs.Table.{circuitOf}
 use Rattle.circuit.specs.RulesInCode.{Legal}
 use Rattle.pass.specs.ValuesInCode.{valuesOf, literalValues}
 use Rattle.cubes.specs.Run.{nextCube, lampsIn, start}
-use Rattle.cubes.specs.Buffer.{cubeBytes, packCube, cubeOf, cubeIn}
-use Rattle.cubes.specs.BufferInCode.{longestCube, IsCube, Cubes}
+use Rattle.cubes.specs.Buffer.{cubeBytes, cubeOf, cubeIn}
+use Rattle.cubes.specs.BufferInCode.{longestCube, IsCube, Cubes, markOf}
 use Rattle.cubes.specs.Given.{same, onward, goesOn}
-use Rattle.cubes.proofs.StoredCube.{few-bytes, cube-bytes, cube-record, cube-of-sized, cube-at, cube-covers, Bytes}
+use Rattle.cubes.proofs.StoredCube.{cube-of-sized, cube-at}
+use Rattle.cubes.proofs.Marks.{no-mark, cube-covers}
+use Rattle.cubes.proofs.Held.{Bytes, padded-byte}
 use Rattle.cubes.proofs.Storing.{cube-place}
 use Rattle.cubes.proofs.Buffered.{next-counted}
 use Rattle.cubes.proofs.Chains.{onward-below}
-use Rattle.stored.specs.CubesInCode.{startFields, coversFrom, Settled}
+use Rattle.stored.specs.CubesInCode.{startFields, raisedBytes, coversFrom, Settled}
 use Rattle.stored.proofs.Starting.{start-fields, start-sized}
-use Rattle.stored.proofs.Reaching.{next-packed}
-use Rattle.stored.proofs.Inside.{front-bytes, bytes-at, covers-at}
+use Rattle.stored.proofs.Reaching.{next-bytes}
+use Rattle.stored.proofs.Inside.{bytes-at, covers-at}
+use Rattle.stored.proofs.Raising.{front-byte, length-raised, raised-bytes}
 use Rattle.judge.specs.JudgeInCode.{Judgeable, Settleable}
 use Rattle.judge.proofs.Passing.{Passing, all-passed, all-judged}
 use Rattle.judged.specs.JudgedInCode.{Walked}
@@ -45,36 +49,38 @@ module _ (c : Counts) (words cubes : List ℕ) (small : (i : ℕ) → getD cubes
   abbrev circuit : Circuit
   circuit = circuitOf c words
 
-  pub cube-fits : (at : ℕ) → IsCube (c .latches) (drop at cubes) → len ≤ length (drop at cubes)
-  cube-fits at cube = omega (arith, size, cube-bytes (c .latches), cube-record _ _ cube .fits)
-
   -- ---- cube 0
 
-  module _ (cube : IsCube (c .latches) cubes) (d b : List ℕ) (begun : b ≡ over (packCube (startFields words (c .latches))) d) where
-    start-bytes : Bytes (c .latches) (λ i. getD b i 0) (start circuit)
-    start-bytes = rw (start-fields c words, begun) (front-bytes (startFields words (c .latches)) (start-sized words (c .latches)) d)
+  module _ (cube : IsCube (c .latches) cubes) (start₀ : List ℕ) (begun : start₀ ≡ over (pack (startFields words (c .latches))) (replicate longestCube 0)) where
+    start-bytes : Bytes len (λ i. getD start₀ i 0) (start circuit)
+    start-bytes i h =
+        ap (λ (l : List ℕ). getD l i 0) begun ∙ padded-byte (startFields words (c .latches)) i longestCube ∙ ap (λ (v : Cube). byteAt v i) (sym (start-fields c words))
 
     start-long : length (start circuit) ≡ c .latches
     start-long = rw (start-fields c words) (start-sized words (c .latches))
 
-    pub start-inside : {r : Bool} → r ≡ coversFrom len cubes b 0 → r ≡ subsumes (cubeOf (c .latches) cubes) (start circuit)
-    start-inside e = e ∙ covers-at (c .latches) len size cubes small 0 cube b (start circuit) start-long start-bytes
+    pub start-inside : {r : Bool} → r ≡ coversFrom len cubes (raisedBytes len 3 start₀) 0 → r ≡ subsumes (cubeOf (c .latches) cubes) (start circuit)
+    start-inside e = e ∙ covers-at (c .latches) len size cubes small 0 cube start₀ (start circuit) start-long start-bytes
 
-    pub start-around : {r : Bool} → r ≡ coversFrom len b cubes 0 → r ≡ subsumes (start circuit) (cubeOf (c .latches) cubes)
+    -- the other way the start has no mark
+    pub start-around : (d around : List ℕ) → around ≡ paste d 0 (raisedBytes len 0 start₀) len → {r : Bool} → r ≡ coversFrom len around cubes 0 → r ≡ subsumes (start circuit) (cubeOf (c .latches) cubes)
     unfolding coversFrom
-    start-around e =
-        e ∙ ap (λ (m : ℕ). coversFrom m b cubes 0) size
-        ∙ cube-covers _ _ _ _ start-long (cube-of-sized (c .latches) cubes)
-        (λ i h. ap (λ (m : ℕ). getD b m 0) (zero-add i) ∙ start-bytes i h)
+    start-around d around ea e =
+        e ∙ ap (λ (m : ℕ). coversFrom m around cubes 0) size
+        ∙ cube-covers _ _ _ _ _ _ start-long (cube-of-sized (c .latches) cubes) (no-mark (markOf cubes))
+        (λ i h. let l : i < len = rw size h in
+        ap (λ (m : ℕ). getD around m 0) (zero-add i)
+        ∙ ap (λ (x : List ℕ). getD x i 0) ea
+        ∙ front-byte d (raisedBytes len 0 start₀) len i l (omega (arith, length-raised len 0 start₀))
+        ∙ raised-bytes len 0 start₀ (c .latches) size (start circuit) start-bytes i h)
         (λ i h. ap (λ (m : ℕ). getD cubes m 0) (sym (zero-add i)) ∙ bytes-at (c .latches) len size cubes small 0 cube i h)
 
   -- ---- the next state of a cube
 
-  pub next-inside : Legal c words → (state : Cube) → length state ≡ c .latches → (t d b : List ℕ) → Settled c words state t → b ≡ over (pack (literalValues (valuesOf t) words 0 2 (c .latches))) d
-      → (to : ℕ) → IsCube (c .latches) (drop to cubes) → {r : Bool} → r ≡ coversFrom len cubes b to → r ≡ subsumes (cubeOf (c .latches) (drop to cubes)) (nextCube circuit state)
-  next-inside legal state sized t d b settled stored to cube e =
-      e ∙ covers-at (c .latches) len size cubes small to cube b (nextCube circuit state) (next-counted c words state)
-      (rw (next-packed c words legal state sized t settled d b stored) (front-bytes (nextCube circuit state) (next-counted c words state) d))
+  pub next-inside : Legal c words → (state : Cube) → length state ≡ c .latches → (t b : List ℕ) → Settled c words state t → b ≡ over (pack (literalValues (valuesOf t) words 0 2 (c .latches))) (replicate longestCube 0)
+      → (to : ℕ) → IsCube (c .latches) (drop to cubes) → {r : Bool} → r ≡ coversFrom len cubes (raisedBytes len 3 b) to → r ≡ subsumes (cubeOf (c .latches) (drop to cubes)) (nextCube circuit state)
+  next-inside legal state sized t b settled stored to cube e =
+      e ∙ covers-at (c .latches) len size cubes small to cube b (nextCube circuit state) (next-counted c words state) (next-bytes c words legal state sized t settled b stored len)
 
 -- the cubes from j on, by the length as the code has it
 pub settleable : (latches n j : ℕ) (cubes : List ℕ) → Settleable latches (cubeBytes latches) n j cubes → {len : ℕ} → len ≡ cubeBytes latches → Settleable latches len n j cubes

@@ -22,6 +22,9 @@ ghost use Rattle.stored.specs.CubesInCode.{SwitchesX};
 ghost use Rattle.judge.specs.JudgeInCode.{Judgeable, Settleable};
 ghost use Rattle.judged.specs.JudgedInCode.{Walked, ChainFound, Written};
 
+// In the mark's place of a cube that another is to lie inside of: 00 has no bit that the other's mark could miss.
+const NO_MARK: u8 = 0;
+
 // Cube 0 is the resets.
 fn starts(counts: Counts, table: &[u16], cubes: &[u8]) -> bool
     requires { ⌜ Legal counts (now table) × IsCube (counts .latches) (now cubes) ⌝ }
@@ -30,10 +33,11 @@ fn starts(counts: Counts, table: &[u16], cubes: &[u8]) -> bool
     let mut start = [0u8; LONGEST_CUBE];
     stored::store_start(table, counts.latches, &mut start);
     let len = stored::cube_bytes(counts.latches);
-    if !stored::covers(cubes, 0, len, &start) {
+    if !stored::subsumes(cubes, 0, len, &start) {
         return false;
     }
-    stored::covers(&start, 0, len, cubes)
+    let around = stored::marked(NO_MARK, &start, len);
+    stored::covers(&around, 0, len, cubes)
 }
 
 // The number that comes after k: the following one, and j after the last.
@@ -63,7 +67,7 @@ fn goes_on(
     judge::lamps_at(counts, table, cubes, at, values, lamps);
     let mut next = [0u8; LONGEST_CUBE];
     pass::store(values, table, 0, 2, counts.latches, &mut next);
-    stored::covers(cubes, to, stored::cube_bytes(counts.latches), &next)
+    stored::subsumes(cubes, to, stored::cube_bytes(counts.latches), &next)
 }
 
 // Each next state lies inside the cube that comes after; `verdict` then has what the lamps are in all n cubes.

@@ -1,4 +1,4 @@
--- The report on an accepted text with a lamp and at most 504 latches is on a closed run, so without a lamp too it is never `refused 15`: 65,536 bytes have room for
+-- The report on an accepted text with a lamp and at most 503 latches is on a closed run, so without a lamp too it is never `refused 15`: 65,536 bytes have room for
 -- as many cubes as a run with w = 16 takes. Assumes nothing.
 use mathlib.Core.Path.{_≡_, refl, sym, ap, _∙_}
 use mathlib.Core.Bool.{Bool, false}
@@ -30,12 +30,12 @@ use Rattle.report.proofs.Lamps.{without-lamp, with-lamp}
 unfoldable pub enough : ℕ → Bool
 enough latches = leb (mostCubes 16 latches) (65536 / cubeBytes latches)
 
-enough-room : (latches : ℕ) → latches ≤ 504 → mostCubes 16 latches ≤ 65536 / cubeBytes latches
+enough-room : (latches : ℕ) → latches ≤ 503 → mostCubes 16 latches ≤ 65536 / cubeBytes latches
 unfolding enough every mostCubes cubeBytes
-enough-room latches few = leb-true _ _ (every-at 505 enough refl latches (omega arith))
+enough-room latches few = leb-true _ _ (every-at 504 enough refl latches (omega arith))
 
--- at 505 the bound says nothing: 521 cubes, and room for 516
-pub no-further : enough 505 ≡ false
+-- at 504 the bound says nothing: 520 cubes, and room for 516
+pub no-further : enough 504 ≡ false
 unfolding enough mostCubes cubeBytes
 no-further = refl
 
@@ -46,7 +46,7 @@ pub record ReportsClosed (text : List ℕ) (t : Content) : Type 0 where
   pub few : n ≤ mostCubes 16 (t .counts .latches)
   pub says : let c : Circuit = circuitOf (t .counts) (t .words) in reportOf text ≡ closedReport n j (verdict c (cubeAt c 16) n) (settled c (cubeAt c 16) n j)
 
-pub reports-closed : (text : List ℕ) (t : Content) → readText text ≡ accepted t → 1 ≤ t .counts .lamps → t .counts .latches ≤ 504 → ReportsClosed text t
+pub reports-closed : (text : List ℕ) (t : Content) → readText text ≡ accepted t → 1 ≤ t .counts .lamps → t .counts .latches ≤ 503 → ReportsClosed text t
 unfolding ended
 reports-closed text t e some few =
     let c : Circuit = circuitOf (t .counts) (t .words) in
@@ -56,7 +56,7 @@ reports-closed text t e some few =
     record { n = r .n; j = r .j; few = r .few; says = with-lamp text t e some ∙ ap (ended c) (r .is-closed) }
 
 -- a closed report opens with `c`, a refusal with `r`; and 16 is not 15
-pub never-15 : (text : List ℕ) (t : Content) → readText text ≡ accepted t → t .counts .latches ≤ 504 → reportOf text ≡ refusing 15 → ⊥
+pub never-15 : (text : List ℕ) (t : Content) → readText text ≡ accepted t → t .counts .latches ≤ 503 → reportOf text ≡ refusing 15 → ⊥
 unfolding closedReport closing refusing item decimal digits bytes
 never-15 text t e few same = go (t .counts .lamps) refl
   where

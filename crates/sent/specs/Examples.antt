@@ -33,21 +33,22 @@ answered g =
     let number : ℕ = refusal (sentTests g) in
     number ∷ cond (eqb number 18) (firstUncovered (circuitIn g) (cubesIn g) (g .n)) 0 ∷ leftBy number (over (pack (verdictFields g)) (g .verdict)) (g .verdict)
 
--- its two cubes in the other order, with a third that is never met, doubled, and all states: accepted, and the last judges nothing
-pub accepts : (answered (sends (0x90 ∷ 0x60 ∷ []) 2) ≡ 0 ∷ 0 ∷ 0x40 ∷ [])
-    × (answered (sends (0x90 ∷ 0x50 ∷ 0x60 ∷ []) 3) ≡ 0 ∷ 0 ∷ 0x40 ∷ [])
-    × (answered (sends (0x60 ∷ 0x60 ∷ 0x90 ∷ 0xFF ∷ []) 3) ≡ 0 ∷ 0 ∷ 0x40 ∷ [])
-    × (answered (sends (0x00 ∷ []) 1) ≡ 0 ∷ 0 ∷ 0x00 ∷ [])
+-- its two cubes in the other order, with a third that is never met, one of them twice and marked otherwise, and all states: accepted, and the last judges nothing
+pub accepts : (answered (sends (0x64 ∷ 0x58 ∷ []) 2) ≡ 0 ∷ 0 ∷ 0x40 ∷ [])
+    × (answered (sends (0x64 ∷ 0x54 ∷ 0x58 ∷ []) 3) ≡ 0 ∷ 0 ∷ 0x40 ∷ [])
+    × (answered (sends (0x58 ∷ 0x98 ∷ 0xA4 ∷ 0xFF ∷ []) 3) ≡ 0 ∷ 0 ∷ 0x40 ∷ [])
+    × (answered (sends (0x80 ∷ []) 1) ≡ 0 ∷ 0 ∷ 0x00 ∷ [])
 unfolding answered
 accepts = (refl, refl, refl, refl)
 
--- the start alone, whose next state is not there; the same of the third cube; the start missing, and no cube at all; a pair 11, and a leftover bit, before 17; more cubes than there are bytes
-pub refuses : (answered (sends (0x60 ∷ []) 1) ≡ 18 ∷ 0 ∷ 255 ∷ [])
-    × (answered (sends (0x60 ∷ 0x90 ∷ 0x80 ∷ 0x20 ∷ []) 3) ≡ 18 ∷ 2 ∷ 255 ∷ [])
-    × (answered (sends (0x90 ∷ []) 1) ≡ 17 ∷ 0 ∷ 255 ∷ [])
-    × (answered (sends (0x00 ∷ []) 0) ≡ 17 ∷ 0 ∷ 255 ∷ [])
-    × (answered (sends (0x90 ∷ 0xC0 ∷ []) 2) ≡ 14 ∷ 0 ∷ 255 ∷ [])
-    × (answered (sends (0x90 ∷ 0x61 ∷ []) 2) ≡ 14 ∷ 0 ∷ 255 ∷ [])
+-- the start alone, whose next state is not there; the same of the third cube; the start missing, and no cube at all; a pair 11, a leftover bit, and a mark of 00, before 17; more cubes than there are bytes
+pub refuses : (answered (sends (0x58 ∷ []) 1) ≡ 18 ∷ 0 ∷ 255 ∷ [])
+    × (answered (sends (0x58 ∷ 0x64 ∷ 0x60 ∷ 0x48 ∷ []) 3) ≡ 18 ∷ 2 ∷ 255 ∷ [])
+    × (answered (sends (0x64 ∷ []) 1) ≡ 17 ∷ 0 ∷ 255 ∷ [])
+    × (answered (sends (0x40 ∷ []) 0) ≡ 17 ∷ 0 ∷ 255 ∷ [])
+    × (answered (sends (0x64 ∷ 0x70 ∷ []) 2) ≡ 14 ∷ 0 ∷ 255 ∷ [])
+    × (answered (sends (0x64 ∷ 0x59 ∷ []) 2) ≡ 14 ∷ 0 ∷ 255 ∷ [])
+    × (answered (sends (0x64 ∷ 0x24 ∷ []) 2) ≡ 14 ∷ 0 ∷ 255 ∷ [])
     × (answered (sends (0xFF ∷ []) 2) ≡ 10 ∷ 0 ∷ 255 ∷ [])
 unfolding answered
-refuses = (refl, refl, refl, refl, refl, refl, refl)
+refuses = (refl, refl, refl, refl, refl, refl, refl, refl)

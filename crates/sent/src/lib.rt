@@ -27,7 +27,7 @@ fn start_inside(counts: Counts, table: &[u16], cubes: &[u8], n: usize) -> bool
     let mut start = [0u8; LONGEST_CUBE];
     stored::store_start(table, counts.latches, &mut start);
     let len = stored::cube_bytes(counts.latches);
-    stored::search(cubes, len, n, &start) < n
+    stored::find(cubes, len, n, &start) < n
 }
 
 // One pass over the cube at byte `at`: its lamps into `lamps`; and its next state lies inside one of the n cubes.
@@ -47,7 +47,7 @@ fn next_inside(
     judge::lamps_at(counts, table, cubes, at, values, lamps);
     let mut next = [0u8; LONGEST_CUBE];
     pass::store(values, table, 0, 2, counts.latches, &mut next);
-    stored::search(cubes, len, n, &next) < n
+    stored::find(cubes, len, n, &next) < n
 }
 
 // The first of the n cubes whose next state lies inside none of them, or n; `verdict` then has what the lamps are in all of them.

@@ -2,12 +2,12 @@
 use mathlib.Core.Path.{_≡_, refl, sym, ap, _∙_}
 use mathlib.Core.Bool.{Bool, true, false}
 use mathlib.Core.List.{List, _++_}
-use Prim.Native.Nat.{ℕ, suc, _+_, _*_, _-_, _≤_, _<_}
+use Prim.Native.Nat.{ℕ, suc, _+_, _*_, _≤_, _<_}
 use native.Mathlib.Omega.{arith}
 use native.Mathlib.Nat.{suc-mul}
 use native.Mathlib.Numerals.{add-one}
 use lib.Dec.{eqb}
-use lib.ListN.{length, take, drop}
+use lib.ListN.{length, drop, replicate}
 use Rattle.three.specs.Lists.{every, over}
 use Rattle.three.specs.Value.{unknown}
 use Rattle.three.specs.Cube.{Cube}
@@ -15,18 +15,18 @@ use Rattle.three.specs.Record.{bytesFor, pack, pairAt, unpack}
 use Rattle.three.specs.RecordInCode.{IsRecord}
 use Rattle.three.proofs.Lists.{length-tabulate}
 use Rattle.three.proofs.Pack.{length-pack, unpack-over}
+use Rattle.three.proofs.Soundness.{record-over}
 use Rattle.circuit.specs.declared.Counts.{Counts}
 use Rattle.circuit.specs.Refusal.{leftBy, refusal}
 use Rattle.circuit.specs.Table.{circuitOf}
 use Rattle.circuit.specs.RulesInCode.{Bounded}
 use Rattle.circuit.proofs.Legality.{legal}
-use Rattle.cubes.specs.Buffer.{cubeBytes, cubeIn}
+use Rattle.cubes.specs.Buffer.{cubeBytes, cubeOf, cubeIn}
 use Rattle.cubes.specs.BufferInCode.{Cubes}
 use Rattle.cubes.specs.Given.{same}
-use Rattle.cubes.proofs.StoredCube.{cube-fields, cube-record, cube-at, cube-in-sized}
+use Rattle.cubes.proofs.StoredCube.{cube-of-sized, cube-record, cube-at, cube-in-sized}
 use Rattle.cubes.proofs.Storing.{cube-place}
 use Rattle.cubes.proofs.Merging.{length-over}
-use Rattle.stored.proofs.Reaching.{part-tail}
 use Rattle.asked.specs.Follow.{forcing}
 use Rattle.asked.specs.Call.{lampIn, lampLiteral, whyFields, whyTests, WhyGiven, Explained}
 use Rattle.asked.proofs.Refusing.{given-passes, answer-passes, answer-decides}
@@ -60,25 +60,31 @@ module _ (counts : Counts) (table cubes : List ℕ) (lamp : ℕ) where
     pub stands : k * len + len ≤ length cubes
     stands = cube-place (k + 1) len k (length cubes) (omega arith) (rw size (ready .are .stand .fits))
 
-    is-record : IsRecord (counts .latches) (drop (k * len) cubes)
-    is-record = rw size (cube-record _ _ (ready .are .stand .cube k (omega arith)))
+    pub stored-cube : IsRecord (suc (counts .latches)) (drop (k * len) cubes)
+    stored-cube = rw size (cube-record _ _ (ready .are .stand .cube k (omega arith)))
 
-    fields-are : unpack (counts .latches) (drop (k * len) cubes) ≡ cubeIn (counts .latches) cubes k
-    fields-are = cube-fields (counts .latches) _ ∙ cube-at (counts .latches) size cubes k
+    few : bytesFor (counts .latches) ≤ 128
+    few = omega (arith, legal counts table (ready .are .accepts) .bounded .latches)
 
-    -- nothing is refused, and the answer is the explanation
-    pub explained-in : (out out′ : List ℕ) (number : ℕ) → length out ≡ 128
-        → Explained (record { counts = counts; table = table; state = take (length cubes - k * len) (drop (k * len) cubes); lamp = lamp; why = out }) number out′
-        → (out′ ≡ over (pack (explanationIn counts table cubes lamp k)) out) × (length out′ ≡ 128)
-    unfolding leftBy whyFields explanationIn explanation
-    explained-in out out′ number room x =
-        let y : Explained (record { counts = counts; table = table; state = drop (k * len) cubes; lamp = lamp; why = out }) number out′ = rw part-tail at x in
-        let known : lampIn (circuitOf counts table) (unpack (counts .latches) (drop (k * len) cubes)) lamp ≡ unknown → ⊥ = rw fields-are (ready .known k (omega arith)) in
-        let passes : number ≡ 0 = y .answers ∙ sym (answer-decides (record { counts = counts; table = table; state = drop (k * len) cubes; lamp = lamp; why = out }) (ready .are .accepts)
-        (given-passes counts _ lamp (is-record .fits) (is-record .good) (ready .is-lamp))
-        (answer-passes counts table _ lamp (length out) known (omega (arith, room, legal counts table (ready .are .accepts) .bounded)))) in
-        let filled : out′ ≡ over (pack (explanationIn counts table cubes lamp k)) out = rw (passes, fields-are) at (y .fills) in
-        (filled, ap (λ (l : List ℕ). length l) filled ∙ length-over _ out (omega (arith, room, length-pack (explanationIn counts table cubes lamp k), explained-sized k, legal counts table (ready .are .accepts) .bounded)) ∙ room)
+    -- its latches were stored as a state
+    module _ (state : List ℕ) (stored : state ≡ over (pack (cubeOf (counts .latches) (drop (k * len) cubes))) (replicate 128 0)) where
+      is-record : IsRecord (counts .latches) state
+      is-record = rw stored (record-over (counts .latches) _ (replicate 128 0) (cube-of-sized (counts .latches) _) (omega (arith, few)))
+
+      fields-are : unpack (counts .latches) state ≡ cubeIn (counts .latches) cubes k
+      fields-are = rw stored (unpack-over (counts .latches) _ (replicate 128 0) (cube-of-sized (counts .latches) _)) ∙ cube-at (counts .latches) size cubes k
+
+      -- nothing is refused, and the answer is the explanation
+      pub explained-in : (out out′ : List ℕ) (number : ℕ) → length out ≡ 128 → Explained (record { counts = counts; table = table; state = state; lamp = lamp; why = out }) number out′
+          → (out′ ≡ over (pack (explanationIn counts table cubes lamp k)) out) × (length out′ ≡ 128)
+      unfolding leftBy whyFields explanationIn explanation
+      explained-in out out′ number room y =
+          let known : lampIn (circuitOf counts table) (unpack (counts .latches) state) lamp ≡ unknown → ⊥ = rw fields-are (ready .known k (omega arith)) in
+          let passes : number ≡ 0 = y .answers ∙ sym (answer-decides (record { counts = counts; table = table; state = state; lamp = lamp; why = out }) (ready .are .accepts)
+          (given-passes counts _ lamp (is-record .fits) (is-record .good) (ready .is-lamp))
+          (answer-passes counts table _ lamp (length out) known (omega (arith, room, few)))) in
+          let filled : out′ ≡ over (pack (explanationIn counts table cubes lamp k)) out = rw (passes, fields-are) at (y .fills) in
+          (filled, ap (λ (l : List ℕ). length l) filled ∙ length-over _ out (omega (arith, room, length-pack (explanationIn counts table cubes lamp k), explained-sized k, few)) ∙ room)
 
   -- ---- groups
 

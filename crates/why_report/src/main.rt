@@ -34,7 +34,7 @@ const LONGEST_RECORD: usize = 128;
 // One byte more than the longest text that is read.
 const DECIDING_BYTES: usize = 60001;
 
-// The explanation in the cube of this number: the one place that takes a stored cube's record for a state.
+// The explanation in the cube of this number: the one place that takes a stored cube for a state, its mark left off.
 fn explain_cube(
     counts: Counts,
     table: &[u16],
@@ -47,7 +47,9 @@ fn explain_cube(
     ensures { λ _. ⌜ (now (out .exit) ≡ over (pack (explanationIn counts (now (table .entry)) (now (cubes .entry)) lamp k)) (now (out .entry))) × (length (now (out .exit)) ≡ 128) ⌝ }
 {
     let at = k * stored::cube_bytes(counts.latches);
-    why::why(counts, table, &cubes[at..], lamp, out);
+    let mut state = [0u8; LONGEST_RECORD];
+    stored::store_latches(counts.latches, cubes, at, &mut state);
+    why::why(counts, table, &state, lamp, out);
 }
 
 // The last cube of the group that begins with this one, whose explanation is in `why`.

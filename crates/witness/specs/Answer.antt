@@ -10,7 +10,7 @@ use Rattle.circuit.specs.declared.Counts.{Counts}
 use Rattle.circuit.specs.Circuit.{Circuit}
 use Rattle.circuit.specs.Refusal.{refusal, leftBy}
 use Rattle.cubes.specs.Run.{cubeAt, Ending, verdict as verdictOf, settled as settledOf}
-use Rattle.cubes.specs.Buffer.{packCubes}
+use Rattle.cubes.specs.Buffer.{packCubes, marked}
 use Rattle.cubes.specs.Chain.{roomIn, storedCubes, backTo, outcomeNumber, ChainGiven, refusedBy, circuitIn, outcomeIn, Chained}
 use Rattle.cubes.specs.Judge.{JudgeGiven, resultTests, Judged}
 
@@ -70,7 +70,7 @@ answerFrom refused results c w room outcome =
       n = leftBy refused n 0;
       j = leftBy refused j 0;
       s = leftBy number (knownFields fields) 0;
-      cubes = leftBy refused (packCubes (cubeAt c w) n) [];
+      cubes = leftBy refused (packCubes (marked w) (cubeAt c w) n) [];
       verdict = leftBy number (pack (verdictOf c (cubeAt c w) n)) [];
       settled = leftBy number (pack fields) [];
     }

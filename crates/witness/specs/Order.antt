@@ -131,6 +131,13 @@ bad = 0xC0 ∷ []
 abbrev spilt : List ℕ
 spilt = 0x41 ∷ []
 
+-- a cube with a mark of 00, and one with a mark of 11
+abbrev unmarked : List ℕ
+unmarked = 0x10 ∷ []
+
+abbrev overmarked : List ℕ
+overmarked = 0xD0 ∷ []
+
 abbrev one : List ℕ
 one = 0xFF ∷ []
 
@@ -145,7 +152,7 @@ judge c table cubes n j verdict settled = record { counts = c; table = table; cu
 
 -- its chain: 0, then 1 for ever
 abbrev made : List ℕ
-made = 0x40 ∷ 0x80 ∷ []
+made = 0x50 ∷ 0x60 ∷ []
 
 abbrev write : Counts → List ℕ → List ℕ → WriteGiven
 write c table buffer = record { counts = c; table = table; buffer = buffer }
@@ -193,6 +200,8 @@ judges =
     ∷ judge fair good bad 2 2 [] [] gives 10
     ∷ judge fair good bad 1 1 [] [] gives 14
     ∷ judge fair good spilt 1 1 [] [] gives 14
+    ∷ judge fair good unmarked 1 1 [] [] gives 14
+    ∷ judge fair good overmarked 1 1 [] [] gives 14
     ∷ judge fair good made 0 0 [] [] gives 19
     ∷ judge fair good made 2 2 [] [] gives 19
     ∷ judge fair good made 2 0 [] [] gives 19

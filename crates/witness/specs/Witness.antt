@@ -24,10 +24,10 @@ witness = given (words 6 7 4)
 abbrev pub other : List ℕ → List ℕ → List ℕ → RunGiven
 other = given (words 4 6 7)
 
--- four cubes, back to cube 2, latches 0, 2 and 3 settled; never, always, open
+-- four cubes of two bytes, none of them widened, back to cube 2, latches 0, 2 and 3 settled; never, always, open
 abbrev pub right : Answer
-right = record { number = 0; n = 4; j = 2; s = 3; cubes = 0x55 ∷ 0xA5 ∷ 0x96 ∷ 0xA6 ∷ []; verdict = 0x60 ∷ []; settled = 0x86 ∷ [] }
+right = record { number = 0; n = 4; j = 2; s = 3; cubes = 0x55 ∷ 0x40 ∷ 0x69 ∷ 0x40 ∷ 0x65 ∷ 0x80 ∷ 0x69 ∷ 0x80 ∷ []; verdict = 0x60 ∷ []; settled = 0x86 ∷ [] }
 
 -- open, never, always
 abbrev pub right-other : Answer
-right-other = record { number = 0; n = 4; j = 2; s = 3; cubes = 0x55 ∷ 0xA5 ∷ 0x96 ∷ 0xA6 ∷ []; verdict = 0x18 ∷ []; settled = 0x86 ∷ [] }
+right-other = record { number = 0; n = 4; j = 2; s = 3; cubes = 0x55 ∷ 0x40 ∷ 0x69 ∷ 0x40 ∷ 0x65 ∷ 0x80 ∷ 0x69 ∷ 0x80 ∷ []; verdict = 0x18 ∷ []; settled = 0x86 ∷ [] }

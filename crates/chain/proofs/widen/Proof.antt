@@ -1,6 +1,5 @@
 -- `chain::widen` meets its contract: the bytes are widened in turn. Assumes nothing.
 use Prim.Native.Nat.{_-_}
-use lib.ListN.{drop}
 use Rattle.three.proofs.Loops.{Stored, stored-first, stored-last}
 use Rattle.chain.specs.ChainInCode.{widenedBytes}
 use Rattle.chain.proofs.Keeping.{widen-next}
@@ -9,19 +8,18 @@ use Rattle.chain.proofs.widen.Statement.{statement}
 use Rattle.chain.proofs.widen.Tie as tie
 
 abbrev Inv-loop : tie.InvT-loop
-Inv-loop cubes at b len wider₀ i₀ wider i = Stored wider₀ 0 (widenedBytes len wider₀ (drop at cubes) b) len wider i
+Inv-loop b len a wider₀ i₀ wider i = Stored wider₀ 0 (widenedBytes len wider₀ a b) len wider i
 
 abbrev μ-loop : tie.MeasureT-loop
-μ-loop cubes at b len wider₀ i₀ wider i = len - i
+μ-loop b len a wider₀ i₀ wider i = len - i
 
 loop-holds : tie.Need-loop-holds Inv-loop μ-loop
 loop-holds c = stored-first _ _ _ _
 
 loop-again : tie.Need-loop-again Inv-loop μ-loop
 loop-again c =
-    let turn = c .before .before .before in
-    let a = c .before .before .before .before .before .before .before .args in
-    widen-next (a .len) (a .held) (a .cubes .now) (a .at) (a .b .now) (omega arith) _ _ _ (turn .before .loop .inv) (turn .loop-test .taken) (c .differing .ensures)
+    let turn = c .before .before in
+    widen-next _ _ _ _ (omega arith) _ _ _ (turn .before .loop .inv) (turn .loop-test .taken) (c .differing .ensures)
 
 returns : tie.Need-returns Inv-loop μ-loop
 returns c = stored-last _ _ _ _ _ _ (c .before .loop .inv) (c .loop-test .left)
@@ -33,7 +31,6 @@ widen-spec =
     Inv-loop
     μ-loop
     loop-holds
-    (λ c. omega arith)
     (λ c. omega arith)
     (λ c. omega arith)
     (λ c. omega arith)

@@ -113,7 +113,7 @@ all-go-on-spec =
     (tie.spec
     Inv-loop
     μ-loop
-    (λ c κs. tt)
+    (λ c κs. c .before .before .before .pre .0 .legal .bounded .latches)
     (λ c κs. tt)
     onward-requires
     mul-first

@@ -19,7 +19,7 @@ abbrev μ-loop : tie.MeasureT-loop
 μ-loop counts table cubes n verdict₀ len values₀ lamps₀ k₀ verdict values lamps k = n - k
 
 cube-bytes-requires : tie.Need-cube-bytes-requires Inv-loop μ-loop
-cube-bytes-requires c κs = tt
+cube-bytes-requires c κs = c .before .before .before .pre .0 .legal .bounded .latches
 
 fresh-values-requires : tie.Need-fresh-values-requires Inv-loop μ-loop
 fresh-values-requires c κs = tt

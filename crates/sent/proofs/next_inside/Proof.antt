@@ -19,13 +19,13 @@ store-requires c κs =
     let pre = c .before .before .before .before .before .before .before .before .before .before .pre in
     (next-readable _ _ (pre .0 .legal), c .before .before .before .before .lamps-at .ensures .0 .working, omega arith, omega (arith, pre .0 .legal .bounded))
 
-slice-aggregate-search : tie.Need-slice-aggregate-search
-slice-aggregate-search c = search needs
+slice-aggregate-find : tie.Need-slice-aggregate-find
+slice-aggregate-find c = search needs
 
-search-requires : tie.Need-search-requires
-search-requires c κs =
+find-requires : tie.Need-find-requires
+find-requires c κs =
     let pre = c .before .before .before .before .before .before .before .before .before .before .before .before .before .pre in
-    (pre .0 .stand .fits, omega (arith, len-few _ _ _ _ _ (pre .0), slice-aggregate-search c))
+    (pre .0 .stand .fits, len-few _ _ _ _ _ (pre .0), omega (arith, len-few _ _ _ _ _ (pre .0), slice-aggregate-find c))
 
 same-length : tie.Need-same-length
 same-length c = search needs
@@ -34,7 +34,7 @@ returns : tie.Need-returns
 returns c =
     let pre = c .before .before .before .before .before .before .before .before .before .before .before .before .before .before .pre in
     let lit = c .before .before .before .before .before .before .before .before .lamps-at .ensures in
-    (next-found _ _ _ _ _ (pre .0) (λ i. c .before .before .before .before .before .before .before .before .before .before .before .before .shared-slice-known2 .given i .fits) _ _ (c .search .ensures) _ (cube-of-sized _ _) _ (lit .0) (c .before .before .before .store .ensures), ready-again _ _ _ _ (lit .0), lit .1)
+    (next-found _ _ _ _ _ (pre .0) (λ i. c .before .before .before .before .before .before .before .before .before .before .before .before .shared-slice-known2 .given i .fits) _ (c .find .ensures) _ (cube-of-sized _ _) _ (lit .0) (c .before .before .before .store .ensures), ready-again _ _ _ _ (lit .0), lit .1)
 
 pub next-inside-spec : {M : Type 1} → statement M
 next-inside-spec =
@@ -43,7 +43,7 @@ next-inside-spec =
     lamps-at-requires
     slice-aggregate-store
     store-requires
-    slice-aggregate-search
-    search-requires
+    slice-aggregate-find
+    find-requires
     same-length
     returns)
