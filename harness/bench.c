@@ -9,6 +9,7 @@
 #define _POSIX_C_SOURCE 200809L
 
 #include "chudravik.h"
+#include "cube.h"
 #include "plain.h"
 
 #include <stdbool.h>
@@ -64,7 +65,7 @@ typedef struct {
     size_t chained_bytes;
     size_t chained_cubes;
     size_t chained_back;
-    uint8_t sent[SENT_CUBES * CHUDRAVIK_RECORD_BYTES(CHUDRAVIK_MOST_LATCHES)];
+    uint8_t sent[SENT_CUBES * CHUDRAVIK_CUBE_BYTES(CHUDRAVIK_MOST_LATCHES)];
     size_t sent_bytes;
     size_t sent_cubes;
     uint8_t known[CHUDRAVIK_RECORD_BYTES(CHUDRAVIK_MOST_LATCHES)];
@@ -204,7 +205,7 @@ static void make_chain(request *r)
 {
     chudravik_chain_answer chain =
         chudravik_chain(r->counts, r->table, r->table_words, r->w, r->chained, sizeof r->chained);
-    r->chained_bytes = chain.cubes * CHUDRAVIK_RECORD_BYTES(r->counts.latches);
+    r->chained_bytes = chain.cubes * CHUDRAVIK_CUBE_BYTES(r->counts.latches);
     r->chained_cubes = chain.cubes;
     r->chained_back = chain.back;
 }
@@ -212,7 +213,7 @@ static void make_chain(request *r)
 /* The cubes of the circuit's chain, each as often as the next, in an order of chance. */
 static void make_cover(request *r)
 {
-    size_t bytes = CHUDRAVIK_RECORD_BYTES(r->counts.latches);
+    size_t bytes = CHUDRAVIK_CUBE_BYTES(r->counts.latches);
     for (size_t k = 0; k < SENT_CUBES; k++) {
         size_t other = random_below(k + 1);
         memmove(r->sent + k * bytes, r->sent + other * bytes, bytes);
@@ -573,7 +574,7 @@ static void check_lengths(const request *sound)
     r.w = CHUDRAVIK_MOST_INTERVAL + 1;
     expect(&CHAINING, &r, CHUDRAVIK_INTERVAL);
     r = *sound;
-    r.cubes_bytes = 3 * CHUDRAVIK_RECORD_BYTES(r.counts.latches);
+    r.cubes_bytes = 3 * CHUDRAVIK_CUBE_BYTES(r.counts.latches);
     expect(&CHAINING, &r, CHUDRAVIK_NO_ROOM);
 }
 
@@ -587,6 +588,9 @@ static void check_chains(const request *sound)
     r.chained[r.chained_bytes - 1] |= 0x03;
     expect(&JUDGING, &r, CHUDRAVIK_RECORD);
     r = *sound;
+    r.chained[0] &= 0x3F; /* the mark 00 */
+    expect(&JUDGING, &r, CHUDRAVIK_RECORD);
+    r = *sound;
     r.verdict_bytes = 0;
     expect(&JUDGING, &r, CHUDRAVIK_TOO_SHORT);
     r.chained_back = r.chained_cubes;
@@ -595,7 +599,7 @@ static void check_chains(const request *sound)
     r.chained_cubes--; /* the last but one does not go back to where the last does */
     expect(&JUDGING, &r, CHUDRAVIK_NOT_A_CHAIN);
     r = *sound;
-    memset(r.chained, 0, CHUDRAVIK_RECORD_BYTES(r.counts.latches)); /* covers the start, and is not it */
+    cube_of_nothing(r.counts.latches, CHUDRAVIK_PLAIN, r.chained); /* covers the start, and is not it */
     expect(&JUDGING, &r, CHUDRAVIK_NOT_A_CHAIN);
 }
 
@@ -613,12 +617,14 @@ static void check_records(const request *sound)
 static void check_covers(const request *sound)
 {
     static request r;
-    size_t bytes = CHUDRAVIK_RECORD_BYTES(sound->counts.latches);
     r = *sound;
     r.sent_cubes++;
     expect(&COVERING, &r, CHUDRAVIK_TOO_SHORT);
     r = *sound;
     r.sent[r.sent_bytes - 1] |= 0x03;
+    expect(&COVERING, &r, CHUDRAVIK_RECORD);
+    r = *sound;
+    r.sent[0] |= 0xC0; /* the mark 11 */
     expect(&COVERING, &r, CHUDRAVIK_RECORD);
     r = *sound;
     r.sent_cubes = 0;
@@ -627,9 +633,9 @@ static void check_covers(const request *sound)
     r.sent_cubes = 1; /* the start alone: the counter in front goes on */
     r.verdict_bytes = 0;
     for (size_t i = 0; i < r.counts.latches; i++)
-        r.sent[i / 4] = (uint8_t)((i % 4 == 0 ? 0 : r.sent[i / 4]) | (r.table[2 * i + 1] == 0 ? 1 : 2) << (6 - 2 * (i % 4)));
+        put_latch(r.sent, i, r.table[2 * i + 1] == 0 ? CHUDRAVIK_LOW : CHUDRAVIK_HIGH);
     expect(&COVERING, &r, CHUDRAVIK_NEXT_NOT_COVERED);
-    memset(r.sent, 0, bytes); /* all states */
+    cube_of_nothing(r.counts.latches, CHUDRAVIK_WIDENED, r.sent); /* all states */
     expect(&COVERING, &r, CHUDRAVIK_TOO_SHORT);
 }
 

@@ -23,6 +23,7 @@
 
 #include "chance.h"
 #include "chudravik.h"
+#include "cube.h"
 
 /* A run for each interval, and one for each kind of chain that no call made. */
 enum { INTERVALS = 4, MENDED = INTERVALS, ROUGH, RUNS };
@@ -161,17 +162,23 @@ static void tick(void)
 
 /* ---- the promises of a judged chain ---- */
 
-/* The executions whose values lie outside the record: all of them where it has the pair 11. */
-static uint64_t outside(const uint8_t *record, const uint64_t *values, size_t fields)
+/* The executions whose values lie outside the record, taken from field `front` on: all of them where it has the pair 11. */
+static uint64_t outside(const uint8_t *record, size_t front, const uint64_t *values, size_t fields)
 {
     static const uint64_t not_high[4] = {0, UINT64_MAX, 0, UINT64_MAX};
     static const uint64_t not_low[4] = {0, 0, UINT64_MAX, UINT64_MAX};
     uint64_t strays = 0;
     for (size_t i = 0; i < fields; i++) {
-        unsigned field = CHUDRAVIK_FIELD(record, i);
+        unsigned field = CHUDRAVIK_FIELD(record, front + i);
         strays |= (values[i] & not_high[field]) | (~values[i] & not_low[field]);
     }
     return strays;
+}
+
+/* The latches of a cube stand behind its mark. */
+static uint64_t outside_cube(const uint8_t *cube, const uint64_t *values, size_t latches)
+{
+    return outside(cube, 1, values, latches);
 }
 
 static size_t cube_of_tick(const struct run *run, uint64_t t)
@@ -184,14 +191,14 @@ static size_t cube_of_tick(const struct run *run, uint64_t t)
 static void check_tick(const struct run *run, uint64_t t)
 {
     size_t latches = circuit.counts.latches;
-    const uint8_t *cube = run->cubes + cube_of_tick(run, t) * CHUDRAVIK_RECORD_BYTES(latches);
-    uint64_t strays = outside(cube, state(), latches);
+    const uint8_t *cube = run->cubes + cube_of_tick(run, t) * CHUDRAVIK_CUBE_BYTES(latches);
+    uint64_t strays = outside_cube(cube, state(), latches);
     if (strays)
         contradicted(run, "cube", t, strays);
-    strays = outside(run->verdict, lamps, circuit.counts.lamps);
+    strays = outside(run->verdict, 0, lamps, circuit.counts.lamps);
     if (strays)
         contradicted(run, "verdict", t, strays);
-    strays = t < run->j ? 0 : outside(run->settled, state(), latches);
+    strays = t < run->j ? 0 : outside(run->settled, 0, state(), latches);
     if (strays)
         contradicted(run, "settled record", t, strays);
 }
@@ -202,10 +209,10 @@ static void check_cover(const struct sent *sent, uint64_t t)
     size_t latches = circuit.counts.latches;
     uint64_t strays = UINT64_MAX;
     for (size_t k = 0; k < sent->n && strays; k++)
-        strays &= outside(sent->cubes + k * CHUDRAVIK_RECORD_BYTES(latches), state(), latches);
+        strays &= outside_cube(sent->cubes + k * CHUDRAVIK_CUBE_BYTES(latches), state(), latches);
     if (strays)
         cover_contradicted(sent, "no cube", t);
-    if (outside(sent->verdict, lamps, circuit.counts.lamps))
+    if (outside(sent->verdict, 0, lamps, circuit.counts.lamps))
         cover_contradicted(sent, "the verdict", t);
 }
 
@@ -234,13 +241,13 @@ static void simulate(uint64_t ticks, uint64_t *seen_lit, uint64_t *seen_dark)
 
 static size_t promised_bytes(size_t w)
 {
-    return (w * circuit.counts.latches + 1) * CHUDRAVIK_RECORD_BYTES(circuit.counts.latches);
+    return (w * circuit.counts.latches + 1) * CHUDRAVIK_CUBE_BYTES(circuit.counts.latches);
 }
 
 /* Without widening a chain may take many cubes, and its search the square of that: the full buffer is seldom lent. */
 static size_t choose_cubes_bytes(size_t w)
 {
-    size_t record = CHUDRAVIK_RECORD_BYTES(circuit.counts.latches);
+    size_t record = CHUDRAVIK_CUBE_BYTES(circuit.counts.latches);
     if (w != 0 && promised_bytes(w) <= CHUDRAVIK_MOST_CUBE_BYTES && one_in(3))
         return promised_bytes(w);
     if (one_in(w == 0 ? 64 : 2))
@@ -258,13 +265,18 @@ static size_t known_fields(const uint8_t *record, size_t fields)
 
 static void check_chain(const struct run *run, chudravik_chain_answer answer)
 {
-    size_t room = run->cubes_bytes / CHUDRAVIK_RECORD_BYTES(circuit.counts.latches);
+    size_t room = run->cubes_bytes / CHUDRAVIK_CUBE_BYTES(circuit.counts.latches);
     if (answer.number != CHUDRAVIK_ACCEPTED && answer.number != CHUDRAVIK_NO_ROOM)
         fail("chain", "refused", answer.number);
     if (answer.number == CHUDRAVIK_NO_ROOM && run->w != 0 && promised_bytes(run->w) <= run->cubes_bytes)
         fail("chain", "not closed within w x latches + 1 cubes", answer.number);
     if (answer.number == CHUDRAVIK_ACCEPTED && (answer.back >= answer.cubes || answer.cubes > room))
         fail("chain", "closed with n and j that cannot be", answer.number);
+    for (size_t k = 0; k < answer.cubes; k++) {
+        bool due = k != 0 && run->w != 0 && k % run->w == 0;
+        if (CHUDRAVIK_MARK(run->cubes + k * CHUDRAVIK_CUBE_BYTES(circuit.counts.latches)) != (due ? CHUDRAVIK_WIDENED : CHUDRAVIK_PLAIN))
+            fail("chain", "a cube is marked otherwise than its number says", (uint32_t)k);
+    }
 }
 
 /* Hands the cubes to the judge; a run whose chain it refuses is not closed. */
@@ -303,38 +315,41 @@ static const uint8_t no_switch_known[CHUDRAVIK_RECORD_BYTES(CHUDRAVIK_MOST_INPUT
 
 static void next_of(const uint8_t *cube, uint8_t next[CHUDRAVIK_RECORD_BYTES(CHUDRAVIK_MOST_LATCHES)])
 {
-    uint8_t lit[CHUDRAVIK_RECORD_BYTES(CHUDRAVIK_MOST_LAMPS)];
-    uint32_t number = chudravik_tick(circuit.counts, circuit.table, circuit.words, cube,
-                                     CHUDRAVIK_RECORD_BYTES(circuit.counts.latches), no_switch_known,
+    uint8_t lit[CHUDRAVIK_RECORD_BYTES(CHUDRAVIK_MOST_LAMPS)], now[CHUDRAVIK_RECORD_BYTES(CHUDRAVIK_MOST_LATCHES)];
+    state_of_cube(cube, circuit.counts.latches, now);
+    uint32_t number = chudravik_tick(circuit.counts, circuit.table, circuit.words, now, sizeof now, no_switch_known,
                                      sizeof no_switch_known, next, CHUDRAVIK_RECORD_BYTES(CHUDRAVIK_MOST_LATCHES), lit,
                                      sizeof lit);
     if (number != CHUDRAVIK_ACCEPTED)
         fail("tick", "refused", number);
 }
 
-/* Forgets in a cube what another does not have alike; answers whether there was anything. */
-static bool forget(uint8_t *cube, const uint8_t *other)
+/* Forgets in a cube what a state does not have alike; answers whether there was anything. */
+static bool forget(uint8_t *cube, const uint8_t *now)
 {
     bool forgot = false;
-    for (size_t i = 0; i < CHUDRAVIK_RECORD_BYTES(circuit.counts.latches); i++) {
-        forgot |= (cube[i] & other[i]) != cube[i];
-        cube[i] &= other[i];
+    for (size_t i = 0; i < circuit.counts.latches; i++) {
+        unsigned field = CHUDRAVIK_LATCH(cube, i);
+        if (field == CHUDRAVIK_UNKNOWN || field == CHUDRAVIK_FIELD(now, i))
+            continue;
+        put_latch(cube, i, CHUDRAVIK_UNKNOWN);
+        forgot = true;
     }
     return forgot;
 }
 
 static void forget_field(struct run *run)
 {
-    size_t record = CHUDRAVIK_RECORD_BYTES(circuit.counts.latches), latch = below(circuit.counts.latches);
+    size_t record = CHUDRAVIK_CUBE_BYTES(circuit.counts.latches), latch = below(circuit.counts.latches);
     uint8_t *cube = run->cubes + (1 + below(run->n - 1)) * record;
     if (circuit.counts.latches > 0)
-        cube[latch / 4] &= (uint8_t)~(3u << (6 - 2 * (latch % 4)));
+        put_latch(cube, latch, CHUDRAVIK_UNKNOWN);
 }
 
 /* A copy of a chain that goes back to a later cube than cube 0, which has to stay the resets. */
 static bool copy_chain(struct run *to, const struct run *from)
 {
-    size_t record = CHUDRAVIK_RECORD_BYTES(circuit.counts.latches);
+    size_t record = CHUDRAVIK_CUBE_BYTES(circuit.counts.latches);
     if (!from->closed || from->n > MOST_BLURRED || (from->n + 1) * record > sizeof to->cubes)
         return false;
     *to = *from;
@@ -349,7 +364,7 @@ static bool copy_chain(struct run *to, const struct run *from)
 
 static void mend(struct run *run)
 {
-    size_t record = CHUDRAVIK_RECORD_BYTES(circuit.counts.latches);
+    size_t record = CHUDRAVIK_CUBE_BYTES(circuit.counts.latches);
     uint8_t next[CHUDRAVIK_RECORD_BYTES(CHUDRAVIK_MOST_LATCHES)];
     for (bool changed = true; changed;) {
         changed = false;
@@ -398,7 +413,7 @@ static void count_checked(const struct run *run, const uint64_t *seen_lit, const
 
 static uint32_t send_cover(struct sent *sent)
 {
-    size_t bytes = sent->n * CHUDRAVIK_RECORD_BYTES(circuit.counts.latches);
+    size_t bytes = sent->n * CHUDRAVIK_CUBE_BYTES(circuit.counts.latches);
     uint32_t number = chudravik_cover(circuit.counts, circuit.table, circuit.words, sent->cubes, bytes, sent->n,
                                       sent->verdict, sizeof sent->verdict)
                           .number;
@@ -419,7 +434,7 @@ static void count_cover(size_t s)
 /* The cubes of a chain, from the last to the first. */
 static void send_chain(struct sent *sent, const struct run *run)
 {
-    size_t record = CHUDRAVIK_RECORD_BYTES(circuit.counts.latches);
+    size_t record = CHUDRAVIK_CUBE_BYTES(circuit.counts.latches);
     sent->n = run->n;
     for (size_t k = 0; k < sent->n; k++)
         memcpy(sent->cubes + (sent->n - 1 - k) * record, run->cubes + k * record, record);
@@ -437,10 +452,9 @@ static unsigned start_field(uint16_t reset)
 static void send_merge(struct sent *sent)
 {
     uint8_t next[CHUDRAVIK_RECORD_BYTES(CHUDRAVIK_MOST_LATCHES)];
-    size_t record = CHUDRAVIK_RECORD_BYTES(circuit.counts.latches);
-    memset(sent->cubes, 0, record);
+    cube_of_nothing(circuit.counts.latches, CHUDRAVIK_PLAIN, sent->cubes);
     for (size_t i = 0; i < circuit.counts.latches; i++)
-        sent->cubes[i / 4] |= (uint8_t)(start_field(circuit.table[2 * i + 1]) << (6 - 2 * (i % 4)));
+        put_latch(sent->cubes, i, start_field(circuit.table[2 * i + 1]));
     do
         next_of(sent->cubes, next);
     while (forget(sent->cubes, next));
@@ -452,10 +466,12 @@ static void send_merge(struct sent *sent)
 
 static void send_latch(struct sent *sent)
 {
-    size_t record = CHUDRAVIK_RECORD_BYTES(circuit.counts.latches), latch = below(circuit.counts.latches);
-    memset(sent->cubes, 0, 2 * record);
-    for (unsigned field = CHUDRAVIK_LOW; field <= CHUDRAVIK_HIGH; field++)
-        sent->cubes[(field - 1) * record + latch / 4] = (uint8_t)(field << (6 - 2 * (latch % 4)));
+    size_t record = CHUDRAVIK_CUBE_BYTES(circuit.counts.latches), latch = below(circuit.counts.latches);
+    for (unsigned field = CHUDRAVIK_LOW; field <= CHUDRAVIK_HIGH; field++) {
+        uint8_t *cube = sent->cubes + (field - 1) * record;
+        cube_of_nothing(circuit.counts.latches, CHUDRAVIK_WIDENED, cube);
+        put_latch(cube, latch, field);
+    }
     sent->n = 2;
     send_cover(sent);
 }
@@ -487,10 +503,10 @@ static void start_inside(const uint8_t *record)
         switches[i] = draw();
 }
 
-static void force_lamp(const uint8_t *cube, size_t lamp)
+static void force_lamp(const uint8_t *given, size_t lamp)
 {
     uint8_t why[CHUDRAVIK_RECORD_BYTES(CHUDRAVIK_MOST_LATCHES)];
-    uint32_t number = chudravik_why(circuit.counts, circuit.table, circuit.words, cube,
+    uint32_t number = chudravik_why(circuit.counts, circuit.table, circuit.words, given,
                                     CHUDRAVIK_RECORD_BYTES(circuit.counts.latches), lamp, why, sizeof why);
     if (number == CHUDRAVIK_LAMP_UNKNOWN)
         return;
@@ -501,7 +517,7 @@ static void force_lamp(const uint8_t *cube, size_t lamp)
     if (lamps[lamp] != 0 && lamps[lamp] != UINT64_MAX)
         fail("why", "the latches named do not force the lamp", (uint32_t)lamp);
     uint64_t forced = lamps[lamp];
-    start_inside(cube);
+    start_inside(given);
     pass_gates();
     if (lamps[lamp] != forced)
         fail("why", "the latches named force the lamp otherwise", (uint32_t)lamp);
@@ -510,9 +526,10 @@ static void force_lamp(const uint8_t *cube, size_t lamp)
 
 static void force_lamps(const struct run *run)
 {
-    const uint8_t *cube = run->cubes + below(run->n) * CHUDRAVIK_RECORD_BYTES(circuit.counts.latches);
+    uint8_t given[CHUDRAVIK_RECORD_BYTES(CHUDRAVIK_MOST_LATCHES)];
+    state_of_cube(run->cubes + below(run->n) * CHUDRAVIK_CUBE_BYTES(circuit.counts.latches), circuit.counts.latches, given);
     for (size_t i = 0; i < circuit.counts.lamps; i++)
-        force_lamp(cube, i);
+        force_lamp(given, i);
 }
 
 /* Goes at least twice through the longest closed chain, so that each cube of its round is met again. */

@@ -7,6 +7,7 @@
  */
 #define _DEFAULT_SOURCE
 #include "chance.h"
+#include "cube.h"
 #include "twice.h"
 
 #include <errno.h>
@@ -1048,6 +1049,12 @@ static size_t record_bytes(size_t fields)
     return fields == 0 ? 1 : (fields + 3) / 4;
 }
 
+/* Of a stored cube: its mark, and then the latches. */
+static size_t cube_bytes(size_t latches)
+{
+    return record_bytes(1 + latches);
+}
+
 static unsigned pair_at(const uint8_t *record, size_t i)
 {
     return record[i / 4] >> (6 - i % 4 * 2) & 3u;
@@ -1072,6 +1079,20 @@ static void damage_record(uint8_t *record, size_t fields)
 {
     size_t place = below(4 * record_bytes(fields));
     set_pair(record, place, chance(50) ? 3 : between(1, 2));
+}
+
+/* The mark of 00 or 11 that no cube has, or damage as of any record. */
+static void damage_cube(uint8_t *cube, size_t latches)
+{
+    if (chance(40))
+        set_pair(cube, 0, chance(50) ? 0 : 3);
+    else
+        damage_record(cube, 1 + latches);
+}
+
+static size_t some_mark(void)
+{
+    return between(1, 2);
 }
 
 /* Behind the record noise, for it is ignored. */
@@ -1147,6 +1168,8 @@ enum sight {
     CLOSED_FULL,
     CLOSED_LATER,
     CLOSED_WIDENED,
+    CLOSED_PLAIN_AGAIN,
+    NO_ROOM_BY_MARKS,
     UNKNOWN_START,
     JUDGED_OWN,
     JUDGED_WITH_LAMP,
@@ -1160,6 +1183,9 @@ enum sight {
     NO_CHAIN_SHORT,
     NO_CHAIN_BACK,
     NO_CHAIN_START,
+    MARK_00,
+    MARK_11,
+    MARKS_TURNED,
     LARGEST_CIRCUIT,
     LONGEST_WRITTEN,
     BOOLEAN_TICK,
@@ -1209,6 +1235,8 @@ static const char *const sight_names[SIGHTS] = {
     "chains closed with no room left",
     "chains closed back to a later cube than cube 0",
     "chains closed after widening",
+    "chains closed with a plain cube behind a widened one",
+    "chains refused with 15 that have a cube less of room by their marks",
     "chains closed from a latch without a start value",
     "chains judged as they were made",
     "chains judged with lamps or gates added behind them",
@@ -1222,6 +1250,9 @@ static const char *const sight_names[SIGHTS] = {
     "chains refused with 19 that were cut short",
     "chains refused with 19 for another j",
     "chains refused with 19 for another start",
+    "cubes refused with 14 for a mark of 00 alone",
+    "cubes refused with 14 for a mark of 11 alone",
+    "cubes accepted with other marks, alike",
     "accepted calls with every count at its ceiling",
     "texts of 58,415 bytes written",
     "ticks without X",
@@ -1573,14 +1604,26 @@ static void see_chain(chudravik_counts counts, size_t w, const answer *chain)
     bool closed = chain->number == 0;
     see(LONG_CLOSED, closed && chain->cubes >= 100);
     see(LONG_NO_ROOM, chain->number == 15 && chain->cubes >= 100);
+    see(NO_ROOM_BY_MARKS, chain->number == 15 && bytes_of(CUBES) / record_bytes(counts.latches) > chain->cubes);
     if (chain->cubes > most_cubes)
         most_cubes = chain->cubes;
     if (!closed)
         return;
-    see(CLOSED_FULL, chain->cubes == bytes_of(CUBES) / record_bytes(counts.latches));
+    see(CLOSED_FULL, chain->cubes == bytes_of(CUBES) / cube_bytes(counts.latches));
     see(CLOSED_LATER, chain->back > 0);
     see(CLOSED_WIDENED, w != 0 && chain->cubes > w);
-    see(UNKNOWN_START, has_pair(of_library(&hand, CUBES), counts.latches, 0));
+    see(CLOSED_PLAIN_AGAIN, w > 1 && chain->cubes > w + 1);
+    see(UNKNOWN_START, has_pair(of_library(&hand, CUBES), 1 + counts.latches, 0));
+}
+
+/* "A cube counts as widened if its number was due for widening; cube 0 is plain." */
+static void must_be_marked(chudravik_counts counts, size_t w, const answer *chain)
+{
+    for (size_t k = 0; k < chain->cubes; k++) {
+        unsigned mark = pair_at(of_library(&hand, CUBES) + k * cube_bytes(counts.latches), 0);
+        if (mark != (k > 0 && w > 0 && k % w == 0 ? 2 : 1))
+            fail("cube %zu of a chain with w %zu has the mark %u", k, w, mark);
+    }
 }
 
 /* Each widening holds a latch more, for where none differs b is a and the chain is closed; and once all are held the next
@@ -1628,19 +1671,21 @@ static void try_chain(circuit *c)
     size_t w = interval();
     twice_begin(&hand, CHAIN, counts, (numbers){.w = w});
     lend_table(c);
-    lend_noise(CUBES, cubes_length(c, w, record_bytes(latches)));
+    lend_noise(CUBES, cubes_length(c, w, cube_bytes(latches)));
     make_call();
     note(CHAIN, hand.library.number, TEN_TABLE);
     see_size(hand.library.number, counts);
     see_chain(counts, w, &hand.library);
     must_close_in_time(counts, w, &hand.library);
+    must_be_marked(counts, w, &hand.library);
     if (hand.library.number == 0)
         must_be_judged(counts, &hand.library);
 }
 
 /* ---- given cubes ---- */
 
-/* Cubes for a circuit, one record behind the other, and how many. The library must take whatever they are. */
+/* Cubes for a circuit, one record behind the other, and how many, with marks of either kind. The library must take whatever
+ * they are. */
 typedef struct {
     size_t latches, record, count, most;
     uint8_t byte[CUBES_CEILING];
@@ -1671,11 +1716,12 @@ static size_t cover_by_chain(cover *sent, const circuit *c)
 /* Both values of one latch, and nothing known of the others. */
 static void cover_by_latch(cover *sent, const circuit *c)
 {
-    uint8_t cube[LATCHES_CEILING] = {0};
+    uint8_t cube[LATCHES_CEILING];
     size_t latch = c->counts.latches == 0 ? 0 : below(c->counts.latches);
-    for (size_t pair = 1; pair <= 2; pair++) {
+    for (unsigned pair = 1; pair <= 2; pair++) {
+        cube_of_nothing(c->counts.latches, some_mark(), cube);
         if (c->counts.latches != 0)
-            set_pair(cube, latch, pair);
+            put_latch(cube, latch, pair);
         add_cube(sent, cube);
     }
 }
@@ -1684,12 +1730,13 @@ static void cover_by_latch(cover *sent, const circuit *c)
 static void cover_by_states(cover *sent, const circuit *c)
 {
     static uint16_t word[WORDS_CEILING];
-    uint8_t state[LATCHES_CEILING] = {0}, switches[INPUTS_CEILING] = {0}, lamps[LAMPS_CEILING];
+    uint8_t state[LATCHES_CEILING] = {0}, switches[INPUTS_CEILING] = {0}, lamps[LAMPS_CEILING], cube[LATCHES_CEILING];
     lay_words(c, word);
     for (size_t i = 0; i < c->counts.latches; i++)
         set_pair(state, i, c->reset[i] == 0 ? 1 : 2);
     for (size_t ticks = between(1, 300); ticks > 0; ticks--) {
-        add_cube(sent, state);
+        cube_of_state(state, c->counts.latches, some_mark(), cube);
+        add_cube(sent, cube);
         if (simulate_tick(c->counts, word, WORDS_CEILING, state, sizeof state, switches, sizeof switches, state,
                           sizeof state, lamps, sizeof lamps) != 0)
             return;
@@ -1699,10 +1746,11 @@ static void cover_by_states(cover *sent, const circuit *c)
 /* The reset of each latch that keeps to it by itself, and nothing known of the others. */
 static void cover_by_keepers(cover *sent, const circuit *c)
 {
-    uint8_t cube[LATCHES_CEILING] = {0};
+    uint8_t cube[LATCHES_CEILING];
+    cube_of_nothing(c->counts.latches, some_mark(), cube);
     for (size_t i = 0; i < c->counts.latches; i++)
         if (c->next[i] == c->reset[i] || c->next[i] == latch_literal(c, i))
-            set_pair(cube, i, c->reset[i] == 0 ? 1 : 2);
+            put_latch(cube, i, c->reset[i] == 0 ? 1 : 2);
     add_cube(sent, cube);
 }
 
@@ -1710,9 +1758,9 @@ static void cover_by_chance(cover *sent)
 {
     uint8_t cube[LATCHES_CEILING];
     for (size_t count = below(6); count > 0; count--) {
-        memset(cube, 0, sizeof cube);
+        cube_of_nothing(sent->latches, some_mark(), cube);
         for (size_t i = 0; i < sent->latches; i++)
-            set_pair(cube, i, below(3));
+            put_latch(cube, i, (unsigned)below(3));
         add_cube(sent, cube);
     }
 }
@@ -1744,11 +1792,11 @@ static void change_cover(cover *sent)
         break;
     case 2:
         if (sent->count > 0 && sent->latches > 0)
-            set_pair(cube, below(sent->latches), 0);
+            put_latch(cube, below(sent->latches), 0);
         break;
     case 3:
         if (sent->count > 0 && sent->latches > 0)
-            set_pair(cube, below(sent->latches), between(1, 2));
+            put_latch(cube, below(sent->latches), (unsigned)between(1, 2));
         break;
     default:
         cover_by_chance(sent);
@@ -1758,7 +1806,7 @@ static void change_cover(cover *sent)
 static void begin_cubes(cover *sent, size_t latches)
 {
     sent->latches = latches;
-    sent->record = record_bytes(latches);
+    sent->record = cube_bytes(latches);
     sent->most = least_of(CUBES_CEILING / sent->record, 600);
     sent->count = 0;
     memset(sent->byte, 0, sizeof sent->byte);
@@ -1799,7 +1847,7 @@ static void lend_cover(cover *sent)
 {
     size_t used = sent->count * sent->record, length = least_of(length_for(used), sizeof sent->byte);
     if (sent->count > 0 && troubled())
-        damage_record(cube_at(sent, below(sent->count)), sent->latches);
+        damage_cube(cube_at(sent, below(sent->count)), sent->latches);
     fill_noise(sent->byte + used, sizeof sent->byte - used);
     lend_given(CUBES, sent->byte, length);
 }
@@ -1809,7 +1857,65 @@ static size_t ten_of_cubes(chudravik_counts counts)
 {
     if (table_words(&hand) < words_of(counts))
         return TEN_TABLE;
-    return hand.with.n > bytes_of(CUBES) / record_bytes(counts.latches) ? TEN_GIVEN : TEN_RESULT;
+    return hand.with.n > bytes_of(CUBES) / cube_bytes(counts.latches) ? TEN_GIVEN : TEN_RESULT;
+}
+
+/* The given cubes with every mark turned into the other, and how many were none; `none` is one of those. */
+static size_t turn_marks(uint8_t *cubes, chudravik_counts counts, unsigned *none)
+{
+    size_t bad = 0;
+    for (size_t k = 0; k < hand.with.n; k++) {
+        uint8_t *cube = cubes + k * cube_bytes(counts.latches);
+        unsigned mark = pair_at(cube, 0);
+        if (mark == 1 || mark == 2) {
+            set_pair(cube, 0, 3 - mark);
+            continue;
+        }
+        *none = mark;
+        bad++;
+        set_pair(cube, 0, some_mark());
+    }
+    return bad;
+}
+
+static answer judge_or_cover(chudravik_counts counts, const uint8_t *cubes, uint8_t *verdict, size_t verdict_bytes,
+                             uint8_t *settled, size_t settled_bytes)
+{
+    if (hand.call == JUDGE) {
+        chudravik_judge_answer judge =
+            chudravik_judge(counts, library_table(&hand), table_words(&hand), cubes, bytes_of(CUBES), hand.with.n,
+                            hand.with.j, verdict, verdict_bytes, settled, settled_bytes);
+        return (answer){.number = judge.number, .settled = judge.settled};
+    }
+    chudravik_cover_answer cover = chudravik_cover(counts, library_table(&hand), table_words(&hand), cubes, bytes_of(CUBES),
+                                                   hand.with.n, verdict, verdict_bytes);
+    return (answer){.number = cover.number, .cube = cover.cube};
+}
+
+/* Marks are not compared: with others the library gives the same. Where some were none and all else is good, 14 goes away. */
+static void must_not_compare_marks(chudravik_counts counts)
+{
+    static uint8_t cubes[LONGEST_BUFFER], verdict[LONGEST_BUFFER], settled[LONGEST_BUFFER];
+    const answer *made = &hand.library;
+    unsigned none = 0;
+    if (made->number == 3 || made->number == 16 || hand.with.n > bytes_of(CUBES) / cube_bytes(counts.latches))
+        return;
+    memcpy(cubes, of_library(&hand, CUBES), hand.with.n * cube_bytes(counts.latches));
+    size_t bad = turn_marks(cubes, counts, &none);
+    size_t settled_bytes = hand.call == JUDGE ? bytes_of(SETTLED) : 0;
+    answer other = judge_or_cover(counts, cubes, verdict, bytes_of(VERDICT), settled, settled_bytes);
+    if (bad > 0 && made->number == 14) {
+        see(none == 0 ? MARK_00 : MARK_11, bad == 1 && other.number != 14);
+        return;
+    }
+    if (other.number != made->number || other.settled != made->settled || other.cube != made->cube)
+        fail("with other marks the library gives %" PRIu32, other.number);
+    if (made->number != 0)
+        return;
+    if (memcmp(verdict, of_library(&hand, VERDICT), record_bytes(counts.lamps)) != 0 ||
+        (hand.call == JUDGE && memcmp(settled, of_library(&hand, SETTLED), record_bytes(counts.latches)) != 0))
+        fail("with other marks the library has other results");
+    see(MARKS_TURNED, true);
 }
 
 static void see_cover(chudravik_counts counts, bool of_chain, const answer *made)
@@ -1838,6 +1944,7 @@ static void try_cover(circuit *c)
     note(COVER, hand.library.number, hand.library.number == 10 ? ten_of_cubes(counts) : TEN_TABLE);
     see_size(hand.library.number, counts);
     see_cover(counts, of_chain, &hand.library);
+    must_not_compare_marks(counts);
 }
 
 /* ---- chains ---- */
@@ -1867,13 +1974,16 @@ static size_t unroll(cover *sent, size_t j)
     return count;
 }
 
-/* Forgets in a cube what another does not have alike; answers whether there was anything. */
-static bool forget(uint8_t *cube, const uint8_t *other, size_t bytes)
+/* Forgets in a cube what a state does not have alike; answers whether there was anything. */
+static bool forget(uint8_t *cube, const uint8_t *state, size_t latches)
 {
     bool forgot = false;
-    for (size_t i = 0; i < bytes; i++) {
-        forgot |= (cube[i] & other[i]) != cube[i];
-        cube[i] &= other[i];
+    for (size_t i = 0; i < latches; i++) {
+        unsigned pair = pair_at(cube, 1 + i);
+        if (pair == 0 || pair == pair_at(state, i))
+            continue;
+        put_latch(cube, i, 0);
+        forgot = true;
     }
     return forgot;
 }
@@ -1883,15 +1993,16 @@ static bool forget(uint8_t *cube, const uint8_t *other, size_t bytes)
 static void mend(cover *sent, const circuit *c, size_t j)
 {
     static uint16_t word[WORDS_CEILING];
-    uint8_t next[LATCHES_CEILING], lamps[LAMPS_CEILING], switches[INPUTS_CEILING] = {0};
+    uint8_t state[LATCHES_CEILING], next[LATCHES_CEILING], lamps[LAMPS_CEILING], switches[INPUTS_CEILING] = {0};
     lay_words(c, word);
     for (bool changed = true; changed;) {
         changed = false;
         for (size_t k = 0; k < sent->count; k++) {
-            if (simulate_tick(c->counts, word, WORDS_CEILING, cube_at(sent, k), sent->record, switches, sizeof switches,
-                              next, sizeof next, lamps, sizeof lamps) != 0)
+            state_of_cube(cube_at(sent, k), sent->latches, state);
+            if (simulate_tick(c->counts, word, WORDS_CEILING, state, sizeof state, switches, sizeof switches, next,
+                              sizeof next, lamps, sizeof lamps) != 0)
                 return;
-            changed |= forget(cube_at(sent, k + 1 < sent->count ? k + 1 : j), next, sent->record);
+            changed |= forget(cube_at(sent, k + 1 < sent->count ? k + 1 : j), next, sent->latches);
         }
     }
 }
@@ -1902,16 +2013,16 @@ static size_t blur(cover *sent, const circuit *c, size_t j)
     if (back == 0 || sent->latches == 0 || sent->count > 100)
         return back;
     for (size_t times = between(1, 3); times > 0; times--)
-        set_pair(cube_at(sent, between(1, sent->count - 1)), below(sent->latches), 0);
+        put_latch(cube_at(sent, between(1, sent->count - 1)), below(sent->latches), 0);
     mend(sent, c, back);
     return back;
 }
 
 static void change_field(cover *sent, size_t k)
 {
-    size_t field = below(sent->latches);
+    size_t latch = below(sent->latches);
     if (sent->latches > 0)
-        set_pair(cube_at(sent, k), field, (pair_at(cube_at(sent, k), field) + between(1, 2)) % 3);
+        put_latch(cube_at(sent, k), latch, (pair_at(cube_at(sent, k), 1 + latch) + (unsigned)between(1, 2)) % 3);
 }
 
 /* Makes the cubes and answers j. */
@@ -1957,17 +2068,18 @@ static size_t back_handed(const cover *sent, size_t j)
                   SIZE_MAX, SIZE_MAX / sent->record + 1 + j, (size_t)1 << 63, draw());
 }
 
-/* The settled record is the merge of the cubes from j on. */
+/* The settled record is the merge of the cubes from j on, marks left off. */
 static void must_be_merged(chudravik_counts counts)
 {
     uint8_t merged[LATCHES_CEILING];
-    size_t record = record_bytes(counts.latches);
+    size_t record = record_bytes(counts.latches), cube = cube_bytes(counts.latches);
     const uint8_t *cubes = of_library(&hand, CUBES);
-    memcpy(merged, cubes + hand.with.j * record, record);
+    state_of_cube(cubes + hand.with.j * cube, counts.latches, merged);
     for (size_t k = hand.with.j; k < hand.with.n; k++) {
-        uint8_t before[LATCHES_CEILING];
+        uint8_t before[LATCHES_CEILING], state[LATCHES_CEILING];
         memcpy(before, merged, record);
-        if (chudravik_merge(counts.latches, before, record, cubes + k * record, record, merged, record) != 0)
+        state_of_cube(cubes + k * cube, counts.latches, state);
+        if (chudravik_merge(counts.latches, before, record, state, record, merged, record) != 0)
             fail("the library refuses to merge cube %zu", k);
     }
     if (memcmp(merged, of_library(&hand, SETTLED), record) != 0)
@@ -2015,6 +2127,7 @@ static void try_judge(circuit *c)
     note(JUDGE, hand.library.number, hand.library.number == 10 ? ten_of_cubes(counts) : TEN_TABLE);
     see_size(hand.library.number, counts);
     see_judge(counts, kind, &hand.library);
+    must_not_compare_marks(counts);
     if (hand.library.number == 0)
         must_be_merged(counts);
 }
@@ -2294,7 +2407,7 @@ static size_t board_cubes_length(void)
 static void must_have_closed(chudravik_counts counts, const answer *made)
 {
     static uint8_t cubes[CUBES_CEILING];
-    size_t bound = 1, used = made->cubes * record_bytes(counts.latches);
+    size_t bound = 1, used = made->cubes * cube_bytes(counts.latches);
     for (size_t i = 0; i < counts.latches; i++)
         bound *= 3;
     if (made->cubes > bound)
@@ -2306,7 +2419,7 @@ static void must_have_closed(chudravik_counts counts, const answer *made)
         fail("a beginners' board is chained otherwise than with w = 0");
     see(BOARD_LONG, made->cubes >= 100);
     for (size_t k = 0; k < made->cubes; k++)
-        if (has_unknown(cubes + k * record_bytes(counts.latches), counts.latches)) {
+        if (has_unknown(cubes + k * cube_bytes(counts.latches), 1 + counts.latches)) {
             see(BOARD_UNKNOWN, true);
             return;
         }
@@ -2330,6 +2443,7 @@ static void try_chain_beginners(circuit *c)
     if (number != 0)
         return;
     must_have_closed(counts, &hand.library);
+    must_be_marked(counts, 0, &hand.library);
     must_be_judged(counts, &hand.library);
 }
 

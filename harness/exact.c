@@ -106,7 +106,7 @@ static void follow(const struct board *board, struct course *course)
 /* Field of latch i in a stored cube. */
 static unsigned latch_in(const uint8_t *cube, size_t i)
 {
-    return CHUDRAVIK_FIELD(cube, i);
+    return CHUDRAVIK_LATCH(cube, i);
 }
 
 static bool lies_in(const uint8_t *cube, size_t latches, unsigned state)
@@ -157,7 +157,7 @@ static bool open_for_nothing(const struct board *board, const struct course *cou
 
 static void look_exactly(const struct board *board, const struct course *course, const struct answers *answers)
 {
-    size_t latches = board->counts.latches, record = CHUDRAVIK_RECORD_BYTES(latches);
+    size_t latches = board->counts.latches, record = CHUDRAVIK_CUBE_BYTES(latches);
     bool occurs[STATES] = {false};
     if (answers->chain.cubes != course->length || answers->chain.back != course->back)
         fail("n or j is not where the states come again");

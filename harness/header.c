@@ -99,7 +99,18 @@ static int chains(chudravik_counts counts)
 {
     chudravik_chain_answer chain = chudravik_chain(counts, table, CHUDRAVIK_MOST_TABLE_WORDS, CHUDRAVIK_MOST_INTERVAL,
                                                    cubes, sizeof cubes);
-    return chain.number == CHUDRAVIK_ACCEPTED && chain.cubes == 2 && chain.back == 0;
+    return chain.number == CHUDRAVIK_ACCEPTED && chain.cubes == 2 && chain.back == 0 &&
+           CHUDRAVIK_CUBE_BYTES(counts.latches) == 1 && CHUDRAVIK_MARK(cubes) == CHUDRAVIK_PLAIN &&
+           CHUDRAVIK_LATCH(cubes, 0) == CHUDRAVIK_LOW && CHUDRAVIK_LATCH(cubes, 1) == CHUDRAVIK_HIGH;
+}
+
+/* With w = 1 cube 1 is due for widening, and both latches have changed. */
+static int widens(chudravik_counts counts)
+{
+    uint8_t two[2];
+    chudravik_chain_answer chain = chudravik_chain(counts, table, CHUDRAVIK_MOST_TABLE_WORDS, 1, two, sizeof two);
+    return chain.number == CHUDRAVIK_ACCEPTED && chain.cubes == 2 && chain.back == 1 &&
+           CHUDRAVIK_MARK(two + 1) == CHUDRAVIK_WIDENED && CHUDRAVIK_LATCH(two + 1, 1) == CHUDRAVIK_UNKNOWN;
 }
 
 /* The chain; then back to its last cube, which the next state is not inside. */
@@ -151,7 +162,7 @@ int main(void)
 {
     chudravik_counts counts;
     if (!version_agrees() || !reads(&counts) || !reads_any(counts) || !begins(counts) || !writes_back(counts) || !crosses(counts) || !ticks(counts) ||
-        !chains(counts) || !judges(counts) || !covers(counts) || !explains(counts) ||
+        !chains(counts) || !widens(counts) || !judges(counts) || !covers(counts) || !explains(counts) ||
         !merges()) {
         fputs("header: not as it must be\n", stderr);
         return 1;

@@ -25,19 +25,20 @@ typedef struct {
 
 /* No counts; a switch behind a gate that is never lit; two latches that swap. */
 static const sample samples[] = {
-    {.text = "aag 0 0 0 0 0\n", .binary = "aig 0 0 0 0 0\n", .n = 1},
+    {.text = "aag 0 0 0 0 0\n", .binary = "aig 0 0 0 0 0\n", .cubes = {0x40}, .n = 1},
     {.text = "aag 2 1 0 1 1\n2\n4\n4 2 3\n",
      .binary = "aig 2 1 0 1 1\n4\n\1\1",
      .counts = {1, 0, 1, 1},
      .table = {4, 2, 3},
      .switches = 0x80,
+     .cubes = {0x40},
      .n = 1},
     {.text = "aag 3 0 2 1 1\n2 4\n4 2 1\n6\n6 4 2\n",
      .binary = "aig 3 0 2 1 1\n4\n2 1\n6\n\2\2",
      .counts = {0, 2, 1, 1},
      .table = {4, 0, 2, 1, 6, 4, 2},
      .state = 0x60,
-     .cubes = {0x60, 0x90},
+     .cubes = {0x58, 0x64},
      .n = 2},
 };
 

@@ -6,7 +6,7 @@
 
 enum {
     VALUE_BYTES = (CHUDRAVIK_MOST_VARIABLES + 1) / 4, /* "a working table of 4,096 values", packed as a record */
-    MOST_RECORD = CHUDRAVIK_RECORD_BYTES(CHUDRAVIK_MOST_LATCHES),
+    MOST_CUBE = CHUDRAVIK_CUBE_BYTES(CHUDRAVIK_MOST_LATCHES),
     MOST_LAMP_RECORD = CHUDRAVIK_RECORD_BYTES(CHUDRAVIK_MOST_LAMPS)
 };
 
@@ -192,19 +192,31 @@ static void pass(const uint16_t *restrict gates, size_t first, size_t count, uin
     }
 }
 
-/* The fields of a record as the values of the variables from `first` on. */
-static void load(const uint8_t *restrict record, size_t first, size_t count, uint8_t *restrict values)
+/* The fields of a record from field `front` on, as the values of the variables from `first` on. */
+static void load(const uint8_t *restrict record, size_t front, size_t first, size_t count, uint8_t *restrict values)
 {
     for (size_t i = 0; i < count; i++) {
-        put_variable(values, first + i, CHUDRAVIK_FIELD(record, i));
+        put_variable(values, first + i, CHUDRAVIK_FIELD(record, front + i));
     }
+}
+
+static void settle_from(const chudravik_counts *counts, const uint16_t *table, const uint8_t *record, size_t front,
+                        uint8_t *values)
+{
+    size_t first = 1 + counts->inputs;
+    load(record, front, first, counts->latches, values);
+    pass(gates_of(counts, table), first + counts->latches, counts->gates, values);
 }
 
 static void settle_state(const chudravik_counts *counts, const uint16_t *table, const uint8_t *state, uint8_t *values)
 {
-    size_t first = 1 + counts->inputs;
-    load(state, first, counts->latches, values);
-    pass(gates_of(counts, table), first + counts->latches, counts->gates, values);
+    settle_from(counts, table, state, 0, values);
+}
+
+/* The latches of a stored cube stand behind its mark. */
+static void settle_cube(const chudravik_counts *counts, const uint16_t *table, const uint8_t *cube, uint8_t *values)
+{
+    settle_from(counts, table, cube, 1, values);
 }
 
 /* The record of `count` literals' values, one literal every `step` words. */
@@ -255,11 +267,57 @@ uint32_t plain_tick(chudravik_counts counts, const uint16_t *table, size_t table
         return CHUDRAVIK_TOO_SHORT;
     }
     uint8_t values[VALUE_BYTES] = {CHUDRAVIK_LOW << 6}; /* "entry 0 the constant" */
-    load(switches, 1, counts.inputs, values);
+    load(switches, 0, 1, counts.inputs, values);
     settle_state(&counts, table, state, values);
     store_next(&counts, table, values, next);
     store_lamps(&counts, table, values, lamps);
     return CHUDRAVIK_ACCEPTED;
+}
+
+/* ---- stored cubes ---- */
+
+/* The mark of what is only searched for: it has both bits, so that a stored cube of either mark subsumes it. */
+enum { ANY_MARK = 3 };
+
+static size_t cube_length(size_t latches)
+{
+    return CHUDRAVIK_CUBE_BYTES(latches);
+}
+
+/* "14 also covers a mark of 00 or 11" */
+static bool sound_cube(const uint8_t *cube, size_t latches)
+{
+    return sound(cube, 1 + latches) && CHUDRAVIK_MARK(cube) != CHUDRAVIK_UNKNOWN;
+}
+
+static void put_mark(uint8_t *cube, uint8_t mark)
+{
+    cube[0] = put_field(cube[0], 0, mark);
+}
+
+/* "Cube 0 is the resets." */
+static void store_start(const uint16_t *table, size_t latches, uint8_t mark, uint8_t *cube)
+{
+    memset(cube, 0, cube_length(latches));
+    for (size_t i = 0; i < latches; i++) {
+        uint16_t reset = table[2 * i + 1];
+        uint8_t field = reset == 0 ? CHUDRAVIK_LOW : reset == 1 ? CHUDRAVIK_HIGH : CHUDRAVIK_UNKNOWN;
+        cube[(1 + i) / 4] |= (uint8_t)(field << (6 - 2 * ((1 + i) % 4)));
+    }
+    put_mark(cube, mark);
+}
+
+/* The next state as a cube: three latches share their byte with the mark. */
+static void store_next_cube(const chudravik_counts *counts, const uint16_t *table, const uint8_t *values, uint8_t *out)
+{
+    size_t latches = counts->latches;
+    uint8_t a = latches > 0 ? literal(values, table[0]) : CHUDRAVIK_UNKNOWN;
+    uint8_t b = latches > 1 ? literal(values, table[2]) : CHUDRAVIK_UNKNOWN;
+    uint8_t c = latches > 2 ? literal(values, table[4]) : CHUDRAVIK_UNKNOWN;
+    out[0] = byte_of(ANY_MARK, a, b, c);
+    if (latches > 3) {
+        store(values, table + 6, 2, latches - 3, out + 1);
+    }
 }
 
 /* ---- the chain ---- */
@@ -267,27 +325,16 @@ uint32_t plain_tick(chudravik_counts counts, const uint16_t *table, size_t table
 /* "how many cubes are stored, which latches are held unknown": a held latch has the pair 11. */
 typedef struct {
     size_t count;
-    uint8_t held[MOST_RECORD];
+    uint8_t held[MOST_CUBE];
 } progress;
-
-/* "Cube 0 is the resets." */
-static void store_start(const uint16_t *table, size_t latches, uint8_t *cube)
-{
-    memset(cube, 0, record_length(latches));
-    for (size_t i = 0; i < latches; i++) {
-        uint16_t reset = table[2 * i + 1];
-        uint8_t field = reset == 0 ? CHUDRAVIK_LOW : reset == 1 ? CHUDRAVIK_HIGH : CHUDRAVIK_UNKNOWN;
-        cube[i / 4] |= (uint8_t)(field << (6 - 2 * (i % 4)));
-    }
-}
 
 /* "b is the next state of a, with held latches set to X." */
 static void reach(const chudravik_counts *counts, const uint16_t *table, const uint8_t *a, const uint8_t *held,
                   uint8_t *values, uint8_t *b)
 {
-    settle_state(counts, table, a, values);
-    store_next(counts, table, values, b);
-    for (size_t i = 0; i < record_length(counts->latches); i++) {
+    settle_cube(counts, table, a, values);
+    store_next_cube(counts, table, values, b);
+    for (size_t i = 0; i < cube_length(counts->latches); i++) {
         b[i] &= (uint8_t)~held[i];
     }
 }
@@ -307,25 +354,28 @@ static size_t search(const uint8_t *cubes, size_t length, size_t n, const uint8_
     return n;
 }
 
-/* Holds every latch whose value in a and b differs. */
+/* Holds every latch whose value in a and b differs, and never the mark. */
 static void widen(uint8_t *restrict held, const uint8_t *restrict a, const uint8_t *restrict b, size_t length)
 {
     for (size_t i = 0; i < length; i++) {
         uint8_t differing = a[i] ^ b[i];
         held[i] |= (uint8_t)(3 * ((differing | differing >> 1) & 0x55));
     }
+    put_mark(held, 0);
 }
 
 /* Stores b as the next cube, behind a; "If w is not 0 and divides k" it is widened first. */
 static void advance(progress *run, const uint8_t *restrict a, const uint8_t *restrict b, size_t length, size_t w,
                     uint8_t *restrict cube)
 {
-    if (w != 0 && run->count % w == 0) {
+    bool due = w != 0 && run->count % w == 0;
+    if (due) {
         widen(run->held, a, b, length);
     }
     for (size_t i = 0; i < length; i++) {
         cube[i] = (uint8_t)(b[i] & ~run->held[i]);
     }
+    put_mark(cube, due ? CHUDRAVIK_WIDENED : CHUDRAVIK_PLAIN);
     run->count++;
 }
 
@@ -333,11 +383,11 @@ static void advance(progress *run, const uint8_t *restrict a, const uint8_t *res
 static bool follow(const chudravik_counts *counts, const uint16_t *table, size_t w, uint8_t *cubes, size_t room,
                    size_t *count, size_t *back)
 {
-    size_t length = record_length(counts->latches);
+    size_t length = cube_length(counts->latches);
     uint8_t values[VALUE_BYTES] = {CHUDRAVIK_LOW << 6};
-    uint8_t b[MOST_RECORD];
+    uint8_t b[MOST_CUBE];
     progress run = {.count = 1};
-    store_start(table, counts->latches, cubes);
+    store_start(table, counts->latches, CHUDRAVIK_PLAIN, cubes);
     for (;;) {
         uint8_t *end = cubes + run.count * length;
         reach(counts, table, end - length, run.held, values, b);
@@ -363,7 +413,7 @@ static uint32_t chain_refusal(const chudravik_counts *counts, const uint16_t *ta
     if (w > CHUDRAVIK_MOST_INTERVAL) {
         return CHUDRAVIK_INTERVAL;
     }
-    if (cubes_bytes < record_length(counts->latches) || cubes_bytes > CHUDRAVIK_MOST_CUBE_BYTES) {
+    if (cubes_bytes < cube_length(counts->latches) || cubes_bytes > CHUDRAVIK_MOST_CUBE_BYTES) {
         return CHUDRAVIK_CUBE_BUFFER;
     }
     return CHUDRAVIK_ACCEPTED;
@@ -377,7 +427,7 @@ chudravik_chain_answer plain_chain(chudravik_counts counts, const uint16_t *tabl
         return (chudravik_chain_answer){number, 0, 0};
     }
     size_t n, j;
-    if (!follow(&counts, table, w, cubes, cubes_bytes / record_length(counts.latches), &n, &j)) {
+    if (!follow(&counts, table, w, cubes, cubes_bytes / cube_length(counts.latches), &n, &j)) {
         return (chudravik_chain_answer){CHUDRAVIK_NO_ROOM, n, 0};
     }
     return (chudravik_chain_answer){CHUDRAVIK_ACCEPTED, n, j};
@@ -432,7 +482,7 @@ chudravik_chain_answer plain_chain_beginners(chudravik_counts counts, const uint
         return (chudravik_chain_answer){number, 0, 0};
     }
     size_t n, j;
-    follow(&counts, table, 0, cubes, cubes_bytes / record_length(counts.latches), &n, &j);
+    follow(&counts, table, 0, cubes, cubes_bytes / cube_length(counts.latches), &n, &j);
     return (chudravik_chain_answer){CHUDRAVIK_ACCEPTED, n, j};
 }
 
@@ -446,12 +496,12 @@ static uint32_t given_refusal(const chudravik_counts *counts, const uint16_t *ta
     if (number != CHUDRAVIK_ACCEPTED) {
         return number;
     }
-    size_t length = record_length(counts->latches);
+    size_t length = cube_length(counts->latches);
     if (n > cubes_bytes / length) {
         return CHUDRAVIK_TOO_SHORT;
     }
     for (size_t k = 0; k < n; k++) {
-        if (!sound(cubes + k * length, counts->latches)) {
+        if (!sound_cube(cubes + k * length, counts->latches)) {
             return CHUDRAVIK_RECORD;
         }
     }
@@ -473,12 +523,17 @@ static void judge_lamps(const chudravik_counts *counts, const uint16_t *table, c
 
 /* ---- judging a chain ---- */
 
-/* "per latch the known value shared by cubes j to n - 1, else 00" */
-static void settle_latches(const uint8_t *cubes, size_t length, size_t n, size_t j, uint8_t *settled)
+/* "per latch the known value shared by cubes j to n - 1, else 00", "marks left off" */
+static void settle_latches(const uint8_t *cubes, size_t latches, size_t n, size_t j, uint8_t *settled)
 {
-    memcpy(settled, cubes + j * length, length);
+    size_t length = cube_length(latches);
+    uint8_t merged[MOST_CUBE + 1] = {0};
+    memcpy(merged, cubes + j * length, length);
     for (size_t k = j + 1; k < n; k++) {
-        agree(settled, cubes + k * length, length);
+        agree(merged, cubes + k * length, length);
+    }
+    for (size_t i = 0; i < record_length(latches); i++) {
+        settled[i] = (uint8_t)(merged[i] << 2 | merged[i + 1] >> 6);
     }
 }
 
@@ -487,12 +542,12 @@ static void settle_latches(const uint8_t *cubes, size_t length, size_t n, size_t
 static bool closed(const chudravik_counts *counts, const uint16_t *table, const uint8_t *cubes, size_t n, size_t j,
                    uint8_t *verdict)
 {
-    size_t length = record_length(counts->latches);
+    size_t length = cube_length(counts->latches);
     uint8_t values[VALUE_BYTES] = {CHUDRAVIK_LOW << 6};
-    uint8_t next[MOST_RECORD];
+    uint8_t next[MOST_CUBE];
     for (size_t k = 0; k < n; k++) {
-        settle_state(counts, table, cubes + k * length, values);
-        store_next(counts, table, values, next);
+        settle_cube(counts, table, cubes + k * length, values);
+        store_next_cube(counts, table, values, next);
         if (search(cubes + (k + 1 < n ? k + 1 : j) * length, length, 1, next) != 0) {
             return false;
         }
@@ -509,17 +564,19 @@ chudravik_judge_answer plain_judge(chudravik_counts counts, const uint16_t *tabl
     if (number != CHUDRAVIK_ACCEPTED) {
         return (chudravik_judge_answer){number, 0};
     }
-    size_t length = record_length(counts.latches);
-    uint8_t start[MOST_RECORD], lamps[MOST_LAMP_RECORD];
-    store_start(table, counts.latches, start);
-    if (j >= n || memcmp(cubes, start, length) != 0 || !closed(&counts, table, cubes, n, j, lamps)) {
+    if (j >= n) {
         return (chudravik_judge_answer){CHUDRAVIK_NOT_A_CHAIN, 0};
     }
-    if (verdict_bytes < record_length(counts.lamps) || settled_bytes < length) {
+    uint8_t start[MOST_CUBE], lamps[MOST_LAMP_RECORD];
+    store_start(table, counts.latches, CHUDRAVIK_MARK(cubes), start);
+    if (memcmp(cubes, start, cube_length(counts.latches)) != 0 || !closed(&counts, table, cubes, n, j, lamps)) {
+        return (chudravik_judge_answer){CHUDRAVIK_NOT_A_CHAIN, 0};
+    }
+    if (verdict_bytes < record_length(counts.lamps) || settled_bytes < record_length(counts.latches)) {
         return (chudravik_judge_answer){CHUDRAVIK_TOO_SHORT, 0};
     }
     memcpy(verdict, lamps, record_length(counts.lamps));
-    settle_latches(cubes, length, n, j, settled);
+    settle_latches(cubes, counts.latches, n, j, settled);
     return (chudravik_judge_answer){CHUDRAVIK_ACCEPTED, known_fields(settled, counts.latches)};
 }
 
@@ -530,12 +587,12 @@ chudravik_judge_answer plain_judge(chudravik_counts counts, const uint16_t *tabl
 static size_t first_uncovered(const chudravik_counts *counts, const uint16_t *table, const uint8_t *cubes, size_t n,
                               uint8_t *verdict)
 {
-    size_t length = record_length(counts->latches);
+    size_t length = cube_length(counts->latches);
     uint8_t values[VALUE_BYTES] = {CHUDRAVIK_LOW << 6};
-    uint8_t next[MOST_RECORD];
+    uint8_t next[MOST_CUBE];
     for (size_t k = 0; k < n; k++) {
-        settle_state(counts, table, cubes + k * length, values);
-        store_next(counts, table, values, next);
+        settle_cube(counts, table, cubes + k * length, values);
+        store_next_cube(counts, table, values, next);
         if (search(cubes, length, n, next) == n) {
             return k;
         }
@@ -552,9 +609,9 @@ chudravik_cover_answer plain_cover(chudravik_counts counts, const uint16_t *tabl
     if (number != CHUDRAVIK_ACCEPTED) {
         return (chudravik_cover_answer){number, 0};
     }
-    uint8_t start[MOST_RECORD];
-    store_start(table, counts.latches, start);
-    if (search(cubes, record_length(counts.latches), n, start) == n) {
+    uint8_t start[MOST_CUBE];
+    store_start(table, counts.latches, ANY_MARK, start);
+    if (search(cubes, cube_length(counts.latches), n, start) == n) {
         return (chudravik_cover_answer){CHUDRAVIK_START_NOT_COVERED, 0};
     }
     uint8_t lamps[MOST_LAMP_RECORD];

@@ -583,7 +583,9 @@ static void make_small_circuit(void)
 /* A circuit at the ceilings. The first latches make a row, each following the one before it, inverted or not; all are
  * at rest but the first, whose change goes down the row by one latch a tick. Each change is a cube that no earlier one
  * subsumes (a widened one goes on as X), so the run needs one cube more than the row has latches. The other latches
- * keep their values. There is room for 65,536 / 128 = 512 cubes: a row of 511 just closes, one of 512 gets 15. */
+ * keep their values. There is room for 65,536 / 129 = 508 cubes: a row of 507 just closes, one of 508 gets 15. */
+enum { LONGEST_ROW_CLOSED = CUBE_BYTES / CHUDRAVIK_CUBE_BYTES(CHUDRAVIK_MOST_LATCHES) - 1 };
+
 static void make_row(size_t row)
 {
     static circuit c;
@@ -860,7 +862,7 @@ static void make_circuit(size_t turn)
 
 static void make_ceilings(size_t turn)
 {
-    make_row(turn % 2 == 0 ? CHUDRAVIK_MOST_LATCHES : between(1, CHUDRAVIK_MOST_LATCHES - 1));
+    make_row(turn % 2 == 0 ? between(LONGEST_ROW_CLOSED + 1, CHUDRAVIK_MOST_LATCHES) : between(1, LONGEST_ROW_CLOSED));
 }
 
 static void make_random_input(size_t turn)
@@ -955,9 +957,9 @@ static void try_padded(void)
 
 static void try_ceilings(void)
 {
-    make_row(CHUDRAVIK_MOST_LATCHES - 1);
+    make_row(LONGEST_ROW_CLOSED);
     try_every_way();
-    make_row(CHUDRAVIK_MOST_LATCHES);
+    make_row(LONGEST_ROW_CLOSED + 1);
     try_every_way();
 }
 

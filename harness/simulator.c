@@ -588,11 +588,44 @@ uint32_t simulate_tick(chudravik_counts counts, const uint16_t *table, size_t ta
     return 0;
 }
 
+/* ---- stored cubes ---- */
+
+/* Request 8: "Each stored cube gets one front field of two bits, 01 for plain and 10 for widened, and its latches move up by
+ * one field." */
+enum { PLAIN = KNOWN_0, WIDENED = KNOWN_1 };
+
+static size_t cube_length(const circuit *c)
+{
+    return record_length(1 + c->latches);
+}
+
+/* "14 also covers a mark of 00 or 11"; 11 is bad in any field. */
+static bool good_cube(const circuit *c, const uint8_t *record)
+{
+    return good_record(record, 1 + c->latches) && pair_at(record, 0) != 0;
+}
+
+static void pack_cube(const circuit *c, value mark, const value *field, uint8_t *record)
+{
+    value marked[1 + LATCHES_CEILING];
+    marked[0] = mark;
+    memcpy(marked + 1, field, c->latches);
+    pack(marked, 1 + c->latches, record);
+}
+
+/* The latches of a cube. What its mark says is for people: nothing here asks for it. */
+static void unpack_cube(const circuit *c, const uint8_t *record, value *field)
+{
+    value marked[1 + LATCHES_CEILING];
+    unpack(record, marked, 1 + c->latches);
+    memcpy(field, marked + 1, c->latches);
+}
+
 /* ---- chain ---- */
 
 typedef struct {
     const circuit *circuit;
-    value *field; /* cube k has its fields from k times latches on */
+    value *field; /* cube k has its latches from k times latches on */
     size_t count; /* of cubes */
     size_t space;
     bool held[LATCHES_CEILING];
@@ -667,7 +700,13 @@ static size_t search(const chain *run, const value *b)
     return j;
 }
 
-/* Step 4, where the interval divides the number of the cube to come. */
+/* "If w is not 0 and divides k"; "cube 0 is plain". */
+static bool due_for_widening(size_t k, size_t w)
+{
+    return k != 0 && w != 0 && k % w == 0;
+}
+
+/* Step 4, where the cube to come is due for it. */
 static void widen(chain *run, value *b)
 {
     const value *a = cube(run, run->count - 1);
@@ -688,7 +727,7 @@ static size_t run_on(chain *run, size_t w, size_t room)
         size_t j = search(run, b);
         if (j < run->count || run->count == room)
             return j;
-        if (w != 0 && run->count % w == 0)
+        if (due_for_widening(run->count, w))
             widen(run, b);
         add_cube(run, b);
     }
@@ -699,7 +738,7 @@ static chudravik_chain_answer run_circuit(const circuit *c, size_t w, uint8_t *c
     chain run = {.circuit = c};
     size_t j = run_on(&run, w, room);
     for (size_t k = 0; k < run.count; k++)
-        pack(cube(&run, k), c->latches, cubes + k * record_length(c->latches));
+        pack_cube(c, due_for_widening(k, w) ? WIDENED : PLAIN, cube(&run, k), cubes + k * cube_length(c));
     chudravik_chain_answer answer = {.number = j < run.count ? 0 : 15, .cubes = run.count, .back = j < run.count ? j : 0};
     free(run.field);
     return answer;
@@ -709,7 +748,7 @@ static uint32_t judge_run(const circuit *c, size_t w, size_t cubes_bytes)
 {
     if (w > INTERVAL_CEILING)
         return 12;
-    return cubes_bytes < record_length(c->latches) || cubes_bytes > CUBES_CEILING ? 13 : 0;
+    return cubes_bytes < cube_length(c) || cubes_bytes > CUBES_CEILING ? 13 : 0;
 }
 
 chudravik_chain_answer simulate_chain(chudravik_counts counts, const uint16_t *table, size_t table_words, size_t w,
@@ -721,7 +760,7 @@ chudravik_chain_answer simulate_chain(chudravik_counts counts, const uint16_t *t
         refusal = judge_run(&c, w, cubes_bytes);
     if (refusal != 0)
         return (chudravik_chain_answer){.number = refusal};
-    return run_circuit(&c, w, cubes, cubes_bytes / record_length(c.latches));
+    return run_circuit(&c, w, cubes, cubes_bytes / cube_length(&c));
 }
 
 /* "A cube buffer of at least 19,683 and at most 65,536 bytes, whatever L is." */
@@ -738,7 +777,7 @@ chudravik_chain_answer simulate_chain_beginners(chudravik_counts counts, const u
         refusal = 13;
     if (refusal != 0)
         return (chudravik_chain_answer){.number = refusal};
-    return run_circuit(&c, 0, cubes, cubes_bytes / record_length(c.latches));
+    return run_circuit(&c, 0, cubes, cubes_bytes / cube_length(&c));
 }
 
 /* ---- given cubes ---- */
@@ -746,11 +785,11 @@ chudravik_chain_answer simulate_chain_beginners(chudravik_counts counts, const u
 /* Refusals 10 and 14 of the n records; the buffer may have any length, and n any size. */
 static uint32_t judge_cubes(const circuit *c, const uint8_t *cubes, size_t cubes_bytes, size_t n)
 {
-    size_t record = record_length(c->latches);
+    size_t record = cube_length(c);
     if (n > cubes_bytes / record)
         return 10;
     for (size_t k = 0; k < n; k++)
-        if (!good_record(cubes + k * record, c->latches))
+        if (!good_cube(c, cubes + k * record))
             return 14;
     return 0;
 }
@@ -760,7 +799,7 @@ static chain take_cubes(const circuit *c, const uint8_t *cubes, size_t n)
     chain sent = {.circuit = c};
     value field[LATCHES_CEILING];
     for (size_t k = 0; k < n; k++) {
-        unpack(cubes + k * record_length(c->latches), field, c->latches);
+        unpack_cube(c, cubes + k * cube_length(c), field);
         add_cube(&sent, field);
     }
     return sent;

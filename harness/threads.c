@@ -58,8 +58,8 @@ static void run_shared(worker *w)
     chudravik_chain_answer chain = chudravik_chain(shared_counts, shared_table, words, 0, cubes, sizeof cubes);
     chudravik_judge_answer judge = chudravik_judge(shared_counts, shared_table, words, cubes, sizeof cubes, chain.cubes,
                                                    chain.back, &verdict, 1, &settled, 1);
-    if (chain.number != CHUDRAVIK_ACCEPTED || chain.cubes != 2 || chain.back != 0 || cubes[0] != 0x60 ||
-        cubes[1] != 0x90 || judge.number != CHUDRAVIK_ACCEPTED || judge.settled != 0 || verdict != 0x40 || settled != 0)
+    if (chain.number != CHUDRAVIK_ACCEPTED || chain.cubes != 2 || chain.back != 0 || cubes[0] != 0x58 ||
+        cubes[1] != 0x64 || judge.number != CHUDRAVIK_ACCEPTED || judge.settled != 0 || verdict != 0x40 || settled != 0)
         fail(w, "the shared circuit did not run as it must");
 }
 

@@ -1,6 +1,7 @@
 /* What `./report --why LAMP` has to print, by the simulator's own recursion: the text on standard input.
  *
  *   whys LAMP */
+#include "cube.h"
 #include "simulator.h"
 
 #include <inttypes.h>
@@ -24,10 +25,11 @@ static int refuse(uint32_t number)
 /* Of a stored cube: the one place that takes its record for a state. */
 static void explain(chudravik_counts counts, size_t k, size_t lamp, uint8_t *why)
 {
-    size_t length = CHUDRAVIK_RECORD_BYTES(counts.latches);
+    uint8_t state[LONGEST_RECORD];
+    state_of_cube(cubes + k * CHUDRAVIK_CUBE_BYTES(counts.latches), counts.latches, state);
     memset(why, 0, LONGEST_RECORD);
-    if (simulate_why(counts, table, CHUDRAVIK_MOST_TABLE_WORDS, cubes + k * length, length, lamp, why,
-                     LONGEST_RECORD) != CHUDRAVIK_ACCEPTED) {
+    if (simulate_why(counts, table, CHUDRAVIK_MOST_TABLE_WORDS, state, sizeof state, lamp, why, LONGEST_RECORD) !=
+        CHUDRAVIK_ACCEPTED) {
         fputs("whys: the simulator does not tell why\n", stderr);
         exit(2);
     }

@@ -78,17 +78,28 @@ extern "C" {
  * where it is lent. */
 #define CHUDRAVIK_RECORD_BYTES(fields) ((size_t)(fields) == 0 ? (size_t)1 : ((size_t)(fields) + 3) / 4)
 
+/* Bytes of a stored cube: a record with one field in front, its mark, and then a field for each latch, so that latch i is
+ * field i + 1. Cubes stand in a cube buffer one behind the other, cube k from byte k x CHUDRAVIK_CUBE_BYTES(latches) on. */
+#define CHUDRAVIK_CUBE_BYTES(latches) CHUDRAVIK_RECORD_BYTES((size_t)(latches) + 1)
+
 /* Bytes of a cube buffer that are always enough for a chain with w >= 1: room for w + latches cubes, and for one where there
  * is no latch. Such a chain is never refused with 15. No buffer is longer than CHUDRAVIK_MOST_CUBE_BYTES (13); with w = 16
- * that is always enough for up to 504 latches. */
+ * that is always enough for up to 503 latches. */
 #define CHUDRAVIK_ROOM_BYTES(w, latches) \
-    ((size_t)(latches) == 0 ? (size_t)1 : ((size_t)(w) + (size_t)(latches)) * CHUDRAVIK_RECORD_BYTES(latches))
+    ((size_t)(latches) == 0 ? (size_t)1 : ((size_t)(w) + (size_t)(latches)) * CHUDRAVIK_CUBE_BYTES(latches))
 
 /* Field i of a record: CHUDRAVIK_UNKNOWN, CHUDRAVIK_LOW or CHUDRAVIK_HIGH. */
 #define CHUDRAVIK_FIELD(record, i) (((record)[(i) / 4] >> (6 - 2 * ((i) % 4))) & 3)
 #define CHUDRAVIK_UNKNOWN 0
 #define CHUDRAVIK_LOW 1
 #define CHUDRAVIK_HIGH 2
+
+/* The mark of a stored cube, and its field for latch i. A chain marks a cube as widened where its number was due for
+ * widening: w is not 0 and divides it; cube 0 is plain. No call compares marks: a given cube may have either. */
+#define CHUDRAVIK_MARK(cube) CHUDRAVIK_FIELD(cube, 0)
+#define CHUDRAVIK_PLAIN 1
+#define CHUDRAVIK_WIDENED 2
+#define CHUDRAVIK_LATCH(cube, i) CHUDRAVIK_FIELD(cube, (i) + 1)
 
 /* ---- refusals ---- */
 
@@ -105,8 +116,8 @@ extern "C" {
 #define CHUDRAVIK_TOO_SHORT 10          /* a lent table, record or result too short */
 #define CHUDRAVIK_TABLE 11              /* a lent table that breaks 6 or 7, or has a reset above 2 */
 #define CHUDRAVIK_INTERVAL 12           /* w above 1,000 */
-#define CHUDRAVIK_CUBE_BUFFER 13        /* cube buffer under one record (a beginners' one: under 19,683) or over 65,536 bytes */
-#define CHUDRAVIK_RECORD 14             /* a pair 11, or a leftover bit set, in a given record */
+#define CHUDRAVIK_CUBE_BUFFER 13        /* cube buffer under one cube (a beginners' one: under 19,683) or over 65,536 bytes */
+#define CHUDRAVIK_RECORD 14             /* a pair 11, or a leftover bit set, in a given record; a given cube's mark 00 or 11 */
 #define CHUDRAVIK_NO_ROOM 15            /* no room for the next cube */
 #define CHUDRAVIK_NO_LAMPS 16           /* no lamps, so nothing to judge */
 #define CHUDRAVIK_START_NOT_COVERED 17  /* the start lies inside none of the given cubes */
@@ -140,10 +151,10 @@ extern "C" {
  * 10: lend as many words or bytes as the call names
  * 11: hand in the counts and the table as they were read, unchanged
  * 12: choose a smaller w
- * 13: lend room for one record at least, and CHUDRAVIK_MOST_CUBE_BYTES at most
- * 14: give each field as 00, 01 or 10, and leave the leftover bits 0
+ * 13: lend CHUDRAVIK_CUBE_BYTES at least, and CHUDRAVIK_MOST_CUBE_BYTES at most
+ * 14: give each field as 00, 01 or 10, a cube's mark as 01 or 10, and leave the leftover bits 0
  * 15: lend CHUDRAVIK_ROOM_BYTES; where that is over the most, choose a smaller w (1 at least) or a circuit with fewer
- *     latches. The report's own room is enough for 504 latches
+ *     latches. The report's own room is enough for 503 latches
  * 16: draw a lamp: without one there is nothing to judge, and it is no pass
  * 17: add a cube that holds the start
  * 18: add a cube that holds the next state of the cube named, or make one larger
@@ -303,7 +314,7 @@ uint32_t chudravik_tick(chudravik_counts counts, const uint16_t *table, size_t t
  *
  * Follows the circuit from the resets, all switches unknown: stores cubes until the next one lies inside a stored one; every
  * w cubes the latches that have just changed are held unknown from then on (w = 0: never).
- * cubes: cube k starts at byte k x CHUDRAVIK_RECORD_BYTES(latches).
+ * cubes: cube k starts at byte k x CHUDRAVIK_CUBE_BYTES(latches); its mark says whether k was due for widening.
  * With number 0 the chain is closed: n cubes, and the next state of the last lies inside cube j. chudravik_judge accepts it,
  * with this table and with any that differs from it in its lamps alone. With w >= 1 and room for w x latches + 1 cubes a
  * chain closes within them.
@@ -320,9 +331,9 @@ chudravik_chain_answer chudravik_chain(chudravik_counts counts, const uint16_t *
 chudravik_chain_answer chudravik_chain_beginners(chudravik_counts counts, const uint16_t *table, size_t table_words,
                                                  uint8_t *cubes, size_t cubes_bytes);
 
-/* Judges a closed chain of cubes, wherever it comes from: n of them, cube k from byte k x CHUDRAVIK_RECORD_BYTES(latches) on,
+/* Judges a closed chain of cubes, wherever it comes from: n of them, cube k from byte k x CHUDRAVIK_CUBE_BYTES(latches) on,
  * in a buffer of any length. It is one where j is below n, cube 0 is the resets, the next state of each cube but the last,
- * all switches unknown, lies inside the cube that follows, and that of the last inside cube j.
+ * all switches unknown, lies inside the cube that follows, and that of the last inside cube j. Marks make no difference.
  * verdict: for each lamp CHUDRAVIK_LOW (it can never light), CHUDRAVIK_HIGH (it is always lit) or CHUDRAVIK_UNKNOWN (open).
  * settled: for each latch the value that it keeps from tick j on, else CHUDRAVIK_UNKNOWN.
  * An accepted chain (number 0) covers every execution: whatever the switches do, the state after t ticks lies in cube t, or
@@ -334,9 +345,10 @@ chudravik_judge_answer chudravik_judge(chudravik_counts counts, const uint16_t *
                                        const uint8_t *cubes, size_t cubes_bytes, size_t n, size_t j, uint8_t *verdict,
                                        size_t verdict_bytes, uint8_t *settled, size_t settled_bytes);
 
-/* Judges cubes that were worked out elsewhere: n of them, in any order, cube k from byte k x CHUDRAVIK_RECORD_BYTES(latches)
+/* Judges cubes that were worked out elsewhere: n of them, in any order, cube k from byte k x CHUDRAVIK_CUBE_BYTES(latches)
  * on; a buffer of any length. They are accepted exactly where the start (the resets) lies inside one of them, and the next
- * state of each, all switches unknown, inside a single one of them. verdict: for each lamp as from chudravik_judge, over all n cubes.
+ * state of each, all switches unknown, inside a single one of them; marks make no difference. verdict: for each lamp as from
+ * chudravik_judge, over all n cubes.
  * An accepted cover (number 0) covers every execution: whatever the switches do, the state lies inside one of the cubes at
  * every tick, so CHUDRAVIK_LOW is dark at every tick and CHUDRAVIK_HIGH lit. Nothing of how the cubes were made is relied on.
  * Refusals: 3, 16, 10 for the table, 11, 10 where n records do not fit into the buffer (any n), 14 for any of the n records, 17,
@@ -361,7 +373,7 @@ uint32_t chudravik_why(chudravik_counts counts, const uint16_t *table, size_t ta
 /* The merge of two records of so many fields, say the settled records of two runs: each field on which both agree, and
  * CHUDRAVIK_UNKNOWN where they do not. So order, grouping and repetition make no difference, a record in which all is
  * unknown swallows every other, and the merge is the narrowest single cube that covers both. The settled record of
- * chudravik_judge is the merge of the cubes from j to n - 1.
+ * chudravik_judge is the merge of the cubes from j to n - 1, marks left off.
  * Refusals: 3 where there are more than 512 fields, 10 for a and b, 14 for a and b, 10 for merged. Bytes of a and b beyond
  * their records are ignored, and those of merged stay as they were. Answers the number. */
 uint32_t chudravik_merge(size_t fields, const uint8_t *a, size_t a_bytes, const uint8_t *b, size_t b_bytes,
