@@ -1,6 +1,6 @@
-/* Answers a list of vectors from the independent simulator: standard input is crates/replay/stdin, and what is written
- * is crates/replay/stdout, which the program `replay` has to write too. The vectors are described in
- * crates/replay/src/main.rt. Nothing of the library is linked.
+/* Answers a list of vectors from the independent simulator: standard input is stdin of crates/replay_texts or
+ * crates/replay_tables, and what is written is its stdout, which the program has to write too. The vectors are described
+ * in its src/main.rt. Nothing of the library is linked.
  *
  *   read WORDS BYTES TEXT
  *   any TABLEWORDS LISTWORDS BYTES TEXT
