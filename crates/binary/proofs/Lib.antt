@@ -9,3 +9,4 @@ pub mod Grammar
 pub mod Behaviour
 pub mod Bound
 pub mod RoundTrip
+pub mod Numbered

@@ -1,6 +1,9 @@
 -- What every report on a circuit says of a text (specification, 6): the refusals, and what stands in the place of them. In a quoted text `/` stands for byte 10. Assumes nothing.
+use mathlib.Core.Path.{_≡_}
 use mathlib.Core.List.{List, _++_}
-use Prim.Native.Nat.{ℕ, _/_}
+use Prim.Native.Nat.{ℕ, _/_, _≤_}
+use lib.ListN.{length}
+use Rattle.three.specs.Lists.{over}
 use Rattle.circuit.specs.Circuit.{Circuit}
 use Rattle.circuit.specs.Refusal.{refusal, leftBy}
 use Rattle.circuit.specs.Table.{circuitOf, lampTests}
@@ -29,3 +32,12 @@ ofRun say t =
 -- the report on a text
 unfoldable pub ofText : Saying → List ℕ → List ℕ
 ofText say text = elim (readText text) [ accepted t ↦ ofRun say t | refused n ↦ refusing n ]
+
+-- What may be long is printed piece by piece: each piece, and what is left after it, make what was left before.
+-- A piece in a buffer at exit, how many bytes it has, and that these are they; the bytes beyond stay.
+pub record Piece (before after buffer : List ℕ) (bytes : ℕ) (buffer′ : List ℕ) : Type 0 where
+  pub piece : List ℕ
+  pub returns : bytes ≡ length piece
+  pub fills : buffer′ ≡ over piece buffer
+  pub fits : bytes ≤ length buffer′
+  pub left : before ≡ piece ++ after

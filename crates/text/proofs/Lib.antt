@@ -16,3 +16,4 @@ pub mod RoundTrip
 pub mod Determined
 pub mod Stores
 pub mod Coding
+pub mod Roomy

@@ -16,7 +16,7 @@ abbrev pub HasNumber : {A : Type 0} → Outcome A → Type 0
 HasNumber (accepted a) = Unit {0}
 HasNumber (refused n) = 1 ≤ n
 
-tested-numbered : {A : Type 0} (ts : List Test) (o : Outcome A) → HasNumber o → HasNumber (tested ts o)
+pub tested-numbered : {A : Type 0} (ts : List Test) (o : Outcome A) → HasNumber o → HasNumber (tested ts o)
 unfolding tested
 tested-numbered ts o h = go (refusal ts)
   where
@@ -24,7 +24,7 @@ tested-numbered ts o h = go (refusal ts)
     go zero = h
     go (suc k) = omega arith
 
-onward-numbered : {A B : Type 0} (f : A → B) (o : Outcome A) → HasNumber o → HasNumber (onward f o)
+pub onward-numbered : {A B : Type 0} (f : A → B) (o : Outcome A) → HasNumber o → HasNumber (onward f o)
 unfolding onward
 onward-numbered f (accepted a) h = tt
 onward-numbered f (refused n) h = h
@@ -41,7 +41,7 @@ lines-numbered ending tests (k ∷ ks) t = by-part (readLine ending t)
     (λ ns rest e. rw (readLines, e) (tested-numbered _ _ (onward-numbered _ _ (lines-numbered ending tests ks rest))))
     (λ e. rw (readLines, e) (omega arith))
 
-opened-numbered : (opening ending : List ℕ) (read : Read) → ((c : Counts) (t : List ℕ) → HasNumber (read c (kinds c) t)) → (t : List ℕ) → HasNumber (readOpened opening ending read t)
+pub opened-numbered : (opening ending : List ℕ) (read : Read) → ((c : Counts) (t : List ℕ) → HasNumber (read c (kinds c) t)) → (t : List ℕ) → HasNumber (readOpened opening ending read t)
 unfolding readOpened
 opened-numbered opening ending read h t = by-part (firstLine opening ending t)
     (λ ns rest e. rw (readOpened, e) (tested-numbered _ _ (tested-numbered _ _ (onward-numbered _ _ (further-numbered _ _ (h (countsOf ns) rest))))))

@@ -21,24 +21,25 @@ use Rattle.text.proofs.Endings.{byNewline, described, describes}
 use Rattle.text.proofs.Spelling.{Spelled, shown-spelled, inputLine, lampLine, gateLine}
 use Rattle.text.proofs.Bound.{text-bound}
 use Rattle.text.proofs.Answers.{read-fits, reading-accepted, write-legal}
-use Rattle.text.specs.Line.{newline}
+use Rattle.text.specs.Line.{newline, lineText}
 
--- A line's words, in front of others, spell what is written where they keep the rules, and keep the rules that they kept
+-- A line's words, in front of others, spell what is written where they keep the rules, keep the rules that they kept, and are written as they were
 record Row (k : Kind) (ws rest : List ℕ) : Type 0 where
   spelled : (most : ℕ) → Due most k → Passed (rowTests most k ws) → Spelled rest k (take (width k) ws ++ rest) (numbers k ws)
   rules : (most : ℕ) → rowTests most k (take (width k) ws ++ rest) ≡ rowTests most k ws
+  written : numbers k (take (width k) ws ++ rest) ≡ numbers k ws
 
 row : (k : Kind) (ws rest : List ℕ) → width k ≤ length ws → Row k ws rest
 unfolding numbers width rowTests literalTests operandTests
-row (input own) ws rest w = record { spelled = λ most d p. inputLine; rules = λ most. refl }
+row (input own) ws rest w = record { spelled = λ most d p. inputLine; rules = λ most. refl; written = refl }
 row (latch own) [] rest w = absurd (omega arith)
 row (latch own) (a ∷ []) rest w = absurd (omega arith)
-row (latch own) (a ∷ r ∷ ws) rest w = record { spelled = λ most d p. shown-spelled own a r rest (d .0) (leb-true r 2 (p .1 .0)); rules = λ most. refl }
+row (latch own) (a ∷ r ∷ ws) rest w = record { spelled = λ most d p. shown-spelled own a r rest (d .0) (leb-true r 2 (p .1 .0)); rules = λ most. refl; written = refl }
 row literal [] rest w = absurd (omega arith)
-row literal (a ∷ ws) rest w = record { spelled = λ most d p. lampLine; rules = λ most. refl }
+row literal (a ∷ ws) rest w = record { spelled = λ most d p. lampLine; rules = λ most. refl; written = refl }
 row (gate own) [] rest w = absurd (omega arith)
 row (gate own) (a ∷ []) rest w = absurd (omega arith)
-row (gate own) (a ∷ b ∷ ws) rest w = record { spelled = λ most d p. gateLine; rules = λ most. refl }
+row (gate own) (a ∷ b ∷ ws) rest w = record { spelled = λ most d p. gateLine; rules = λ most. refl; written = refl }
 
 written-says : (most : ℕ) (ks : List Kind) (ws : List ℕ) → Owned most ks → Passed (tableTests most ks ws) → size ks ≤ length ws
     → Says newline [] ks (take (size ks) ws) (writeRows lineOf ks ws)
@@ -58,6 +59,14 @@ take-rules most (k ∷ ks) ws h =
     rw (take-add, row k ws rest (omega arith) .rules most, drop-at (take (width k) ws) rest (width k) (length-take-le (width k) ws (omega arith)))
     (ap (λ (ts : List Test). rowTests most k ws ++ ts) (take-rules most ks (drop (width k) ws) (simp length-drop (omega arith))))
 
+take-lines : (ks : List Kind) (ws : List ℕ) → size ks ≤ length ws → writeRows lineOf ks (take (size ks) ws) ≡ writeRows lineOf ks ws
+unfolding writeRows lineOf size
+take-lines [] ws h = refl
+take-lines (k ∷ ks) ws h =
+    let rest : List ℕ = take (size ks) (drop (width k) ws) in
+    rw (take-add, row k ws rest (omega arith) .written, drop-at (take (width k) ws) rest (width k) (length-take-le (width k) ws (omega arith)))
+    (ap (λ (t : List ℕ). lineText (numbers k ws) ++ t) (take-lines ks (drop (width k) ws) (simp length-drop (omega arith))))
+
 -- nor do they matter to 3, 10 and 11
 taken-words : (c : Counts) (table : List ℕ) → Taken c table → Taken c (take (tableLength c) table)
 taken-words c table k = record {
@@ -74,16 +83,20 @@ taken-table c table h k = record {
   rules = rw (← size-kinds c, take-rules (top c) (kinds c) table (omega (arith, size-kinds c))) at (k .rules);
 }
 
--- what the reader leaves in a table: the words read stand in front, and 3, 10 and 11 do not refuse it
+-- what a reader accepts: as many words as the counts take, and 3, 10 and 11 do not refuse them
+pub record Kept (c : Content) : Type 0 where
+  pub legal : 0 ≡ refusal (circuitTests (c .counts) (c .words))
+  pub whole : length (c .words) ≡ tableLength (c .counts)
+
+-- what it leaves in a table: the words read stand in front, and 3, 10 and 11 do not refuse it
 pub record Carries (c : Content) (table : List ℕ) : Type 0 where
   pub front : take (tableLength (c .counts)) table ≡ c .words
   pub legal : 0 ≡ refusal (circuitTests (c .counts) table)
   pub few : Bounded (c .counts)
 
-pub read-carries : (text : List ℕ) {c : Content} → readText text ≡ accepted c → (lent : List ℕ) → tableLength (c .counts) ≤ length lent → Carries c (over (c .words) lent)
+pub kept-carries : {c : Content} → Kept c → (lent : List ℕ) → tableLength (c .counts) ≤ length lent → Carries c (over (c .words) lent)
 unfolding over
-read-carries text {c} e lent h =
-    let d = describes text e in
+kept-carries {c} d lent h =
     let first = take-at (c .words) (drop (length (c .words)) lent) (tableLength (c .counts)) (d .whole) in
     let k : Taken (c .counts) (c .words) = taken (c .counts) (c .words) (d .legal) in
     record {
@@ -91,6 +104,16 @@ read-carries text {c} e lent h =
       legal = taken-refusal (taken-table (c .counts) _ (simp (length-append, length-drop) (omega (arith, d .whole))) (rw first k));
       few = k .bounded;
     }
+
+pub read-carries : (text : List ℕ) {c : Content} → readText text ≡ accepted c → (lent : List ℕ) → tableLength (c .counts) ≤ length lent → Carries c (over (c .words) lent)
+read-carries text e lent h = let d = describes text e in kept-carries (record { legal = d .legal; whole = d .whole }) lent h
+
+-- and the writer writes the words that were read
+pub carries-written : {c : Content} {table : List ℕ} → Carries c table → writeText (c .counts) table ≡ writeText (c .counts) (c .words)
+unfolding writeOpened
+carries-written {c} {table} k =
+    let long : tableLength (c .counts) ≤ length table = taken (c .counts) table (k .legal) .long in
+    rw (← (k .front), ← size-kinds (c .counts), take-lines (kinds (c .counts)) table (omega (arith, size-kinds (c .counts))))
 
 -- what the writer is given: the counts, and the words that belong to them
 abbrev pub given : Counts → List ℕ → Content

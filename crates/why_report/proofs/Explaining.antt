@@ -33,7 +33,8 @@ use Rattle.asked.proofs.Refusing.{given-passes, answer-passes, answer-decides}
 use Rattle.putting.specs.PutInCode.{Put}
 use Rattle.reasons.specs.Reasons.{line}
 use Rattle.reasons.proofs.Groups.{Ends, same-pairs}
-use Rattle.why_report.specs.WhyReport.{explanation, Piece}
+use Rattle.reporting.specs.Reporting.{Piece}
+use Rattle.why_report.specs.WhyReport.{explanation}
 use Rattle.why_report.specs.WhyReportInCode.{explanationIn, linesFrom, Explains, Ready, GroupEnds}
 use Rattle.why_report.proofs.Pieces.{put-piece}
 

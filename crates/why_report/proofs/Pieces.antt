@@ -1,25 +1,18 @@
 -- A piece that is put from the front of a buffer. Assumes nothing.
-use mathlib.Core.Path.{_≡_, sym, _∙_}
+use mathlib.Core.Path.{_≡_, refl, sym}
 use mathlib.Core.List.{List, [], _++_, append-nil}
 use Prim.Native.Nat.{ℕ, _≤_, _<_}
-use native.Mathlib.Nat.{zero-add}
 use native.Mathlib.Omega.{arith}
 use lib.ListN.{length}
 use Rattle.circuit.specs.declared.Counts.{Counts}
 use Rattle.putting.specs.PutInCode.{Put}
-use Rattle.putting.proofs.Putting.{put-over}
 use Rattle.reasons.specs.Reasons.{toldFrom}
-use Rattle.why_report.specs.WhyReport.{Piece}
+use Rattle.reporting.proofs.Reading.{put-front}
+use Rattle.reporting.specs.Reporting.{Piece}
 use Rattle.why_report.specs.WhyReportInCode.{linesFrom, Begins}
 
 pub put-piece : {before after out out′ piece : List ℕ} {r : ℕ} → before ≡ piece ++ after → Put out 0 piece out′ r × (r ≤ length out) → Piece before after out r out′
-put-piece {piece = piece} e p = record {
-  piece = piece;
-  returns = p .0 .after ∙ zero-add (length piece);
-  fills = put-over (p .0) (omega (arith, p .0 .after, p .1));
-  fits = omega (arith, p .1, p .0 .long);
-  left = e;
-}
+put-piece {piece = piece} e p = let is = put-front (refl {x = piece}) p in record { piece = piece; returns = is .0; fills = is .1; fits = is .2; left = e }
 
 -- one that is the whole
 pub put-whole : {whole out out′ : List ℕ} {r : ℕ} → Put out 0 whole out′ r × (r ≤ length out) → Piece whole [] out r out′

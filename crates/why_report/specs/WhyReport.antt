@@ -1,11 +1,9 @@
 -- Why a lamp stays dark or lit (specification, 6): what is printed for a lamp's number and the bytes on standard input. Assumes nothing.
-use mathlib.Core.Path.{_≡_}
 use mathlib.Core.Bool.{cond}
 use mathlib.Core.List.{List, [], _++_}
-use Prim.Native.Nat.{ℕ, _≤_}
+use Prim.Native.Nat.{ℕ}
 use lib.Dec.{ltb}
 use lib.ListN.{length, getD}
-use Rattle.three.specs.Lists.{over}
 use Rattle.three.specs.Value.{Three, unknown}
 use Rattle.three.specs.Cube.{Cube}
 use Rattle.circuit.specs.Circuit.{Circuit}
@@ -36,11 +34,4 @@ module _ (lamp : ℕ) where
   unfoldable pub whyReportOf : List ℕ → List ℕ
   whyReportOf text = ofText ended text
 
--- It is printed piece by piece: each piece, and what is left after it, make what was left before.
--- A piece in a buffer at exit, how many bytes it has, and that these are they; the bytes beyond stay.
-pub record Piece (before after buffer : List ℕ) (bytes : ℕ) (buffer′ : List ℕ) : Type 0 where
-  pub piece : List ℕ
-  pub returns : bytes ≡ length piece
-  pub fills : buffer′ ≡ over piece buffer
-  pub fits : bytes ≤ length buffer′
-  pub left : before ≡ piece ++ after
+-- It is printed piece by piece (`Piece`, reporting).

@@ -15,7 +15,8 @@ use Rattle.cubes.specs.BufferInCode.{Cubes}
 use Rattle.cubes.specs.Judge.{judgeTests}
 use Rattle.asked.specs.Call.{lampIn}
 use Rattle.reasons.specs.Reasons.{line, toldFrom}
-use Rattle.why_report.specs.WhyReport.{explanation, Piece}
+use Rattle.reporting.specs.Reporting.{Piece}
+use Rattle.why_report.specs.WhyReport.{explanation}
 
 module _ (counts : Counts) (table cubes : List ℕ) where
   -- the explanation in the stored cube of this number

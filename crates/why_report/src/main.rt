@@ -3,6 +3,8 @@ use circuit::Counts;
 use libc::STDERR_FILENO;
 use libc::STDOUT_FILENO;
 use lines::Ending;
+use reporting::DECIDING_BYTES;
+use reporting::TABLE_WORDS;
 use rows::Row;
 ghost use mathlib.Core.List.{[]};
 ghost use mathlib.Core.Path.{_≡_};
@@ -13,8 +15,8 @@ ghost use Rattle.three.specs.Record.{pack};
 ghost use Rattle.circuit.specs.Refusal.{refusal};
 ghost use Rattle.circuit.specs.Table.{circuitOf, circuitTests};
 ghost use Rattle.cubes.specs.Buffer.{cubeIn};
-ghost use Rattle.reporting.specs.Reporting.{refusing, ofRun};
-ghost use Rattle.why_report.specs.WhyReport.{explained, ended, whyReportOf, Piece};
+ghost use Rattle.reporting.specs.Reporting.{refusing, ofRun, Piece};
+ghost use Rattle.why_report.specs.WhyReport.{explained, ended, whyReportOf};
 ghost use Rattle.why_report.specs.WhyReportInCode.{explanationIn, linesFrom, Judgeable, Explains, Ready, GroupEnds, Begins};
 
 // Takes w = 16 and a cube buffer of 65,536 bytes, as the report does.
@@ -22,17 +24,11 @@ const INTERVAL: usize = 16;
 
 const CUBE_BYTES: usize = 65536;
 
-// The table of any circuit fits: 2 × 512 + 64 + 2 × 3,327 words.
-const TABLE_WORDS: usize = 7742;
-
 // Any line fits: 100 bytes for the cubes and the end, 32 for each latch.
 const LINE_BYTES: usize = 20000;
 
 // The record of the most latches.
 const LONGEST_RECORD: usize = 128;
-
-// One byte more than the longest text that is read.
-const DECIDING_BYTES: usize = 60001;
 
 // The explanation in the cube of this number: the one place that takes a stored cube for a state, its mark left off.
 fn explain_cube(

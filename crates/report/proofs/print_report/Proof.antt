@@ -6,7 +6,7 @@ use Rattle.report.proofs.print_report.Statement.{statement}
 use Rattle.report.proofs.print_report.Tie as tie
 use Rattle.io.proofs.write_all.Reads as write-all-reads
 use Rattle.report.proofs.complain.Reads as complain-reads
-use Rattle.report.proofs.report.Reads as report-reads
+use Rattle.reported.proofs.report.Reads as report-reads
 
 array-share-prefix-out : tie.Need-array-share-prefix-out
 array-share-prefix-out c = c .report .ensures .fits

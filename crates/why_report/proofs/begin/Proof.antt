@@ -1,5 +1,6 @@
 -- `why_report::begin` meets its contract: what the reader refuses, and the first piece for what it read. Assumes nothing.
 use native.Mathlib.Omega.{arith}
+use Rattle.reporting.specs.Reporting.{ofText}
 use Rattle.reporting.proofs.Reading.{read-refused, read-accepted, accepted-table, run-read}
 use Rattle.why_report.specs.WhyReport.{ended, whyReportOf}
 use Rattle.why_report.proofs.Pieces.{only-piece, begins-as}
@@ -21,7 +22,7 @@ begin-run-requires : tie.Need-begin-run-requires
 begin-run-requires c κs = let start = c .before .before .before .before .before .before .before .before .before .before in (accepted-table (read-accepted _ _ (omega (arith, start .pre .0)) (c .before .before .before .before .before .before .before .read .ensures) (c .before .before .before .before .before .if1 .left)), start .pre .1)
 
 returns-2 : tie.Need-returns-2
-unfolding whyReportOf
+unfolding whyReportOf ofText
 returns-2 c =
     let start = c .before .before .before .before .before .before .before .before .before .before .before in
     let said = c .begin-run .ensures in

@@ -1,0 +1,31 @@
+-- `converter::print_converted` is safe: the text fits its buffer. Assumes nothing.
+use mathlib.Core.Path.{sym}
+use lib.Seq.{length-take-le}
+use borrow.Author.Needs.{needs}
+use Rattle.converter.proofs.print_converted.Statement.{statement}
+use Rattle.converter.proofs.print_converted.Tie as tie
+use Rattle.io.proofs.write_all.Reads as write-all-reads
+use Rattle.converter.proofs.complain.Reads as complain-reads
+use Rattle.converter.proofs.convert.Reads as convert-reads
+
+array-share-prefix-out : tie.Need-array-share-prefix-out
+array-share-prefix-out c = c .convert .ensures .fits
+
+slice-aggregate-write-all : tie.Need-slice-aggregate-write-all
+slice-aggregate-write-all c = sym (length-take-le _ _ (array-share-prefix-out (c .before)))
+
+returns-2 : tie.Need-returns-2
+returns-2 c = search needs
+
+pub print-converted-spec : {M : Type 1} → statement M
+print-converted-spec =
+    tie.close
+    (tie.spec
+    (λ c κs. search needs)
+    array-share-prefix-out
+    slice-aggregate-write-all
+    (λ c κs. search needs)
+    (λ c. search needs)
+    (λ c κs. search needs)
+    (λ c. search needs)
+    returns-2)

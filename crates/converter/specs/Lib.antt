@@ -1,0 +1,2 @@
+pub mod Converter
+pub mod Examples
