@@ -11,7 +11,7 @@ use Rattle.three.proofs.Lists.{and-parts, every-at}
 use Rattle.circuit.specs.declared.Counts.{Counts}
 use Rattle.circuit.specs.Refusal.{refusal, allHold}
 use Rattle.circuit.specs.RulesInCode.{Passed, latchKept, literalKept, gateKept, Bounded, Legal}
-use Rattle.circuit.specs.Table.{top, tableLength, kinds, tableTests, ceilingTests, wordTests, circuitTests, lampTests, boardTests, gatesAt}
+use Rattle.circuit.specs.Table.{top, tableLength, kinds, tableTests, ceilingTests, wordTests, circuitTests, lampTests, boardTests, gatesAt, verdicts}
 use Rattle.circuit.proofs.Refusals.{Numbered, Alike, stops, past, none, passes, fails, passed-refusal, refuses-whole, none-past, none-append, append-past, none-behind}
 use Rattle.circuit.proofs.Rules.{Latches, Literals, Gates, table-rules}
 
@@ -32,7 +32,7 @@ module _ (c : Counts) where
 
   pub bounded-passed : Bounded c → Passed (ceilingTests c)
   unfolding ceilingTests
-  bounded-passed b = (le-leb _ _ (b .inputs), (le-leb _ _ (b .latches), (le-leb _ _ (b .lamps), (le-leb _ _ (b .gates), tt))))
+  bounded-passed b = (le-leb _ _ (b .inputs), (le-leb _ _ (b .latches), (le-leb _ _ (b .lamps), (le-leb _ _ (b .gates), (le-leb _ _ (b .bads), (le-leb _ _ (b .constraints), tt))))))
 
   pub bounded : 0 ≡ refusal (ceilingTests c) → Bounded c
   bounded e = passed-bounded (passes (ceilingTests c) ceilings-numbered e)
@@ -49,13 +49,13 @@ module _ (c : Counts) where
   unfolding lampTests
   lamps-numbered = omega arith
 
-  pub no-lamp : c .lamps ≡ 0 → 16 ≡ refusal (lampTests c)
+  pub no-lamp : verdicts c ≡ 0 → 16 ≡ refusal (lampTests c)
   unfolding lampTests
-  no-lamp z = stops _ _ (lt-leb 1 (c .lamps) (omega arith))
+  no-lamp z = stops _ _ (lt-leb 1 (verdicts c) (omega arith))
 
-  pub some-lamp : 1 ≤ c .lamps → 0 ≡ refusal (lampTests c)
+  pub some-lamp : 1 ≤ verdicts c → 0 ≡ refusal (lampTests c)
   unfolding lampTests
-  some-lamp h = past _ _ (le-leb 1 (c .lamps) h) none
+  some-lamp h = past _ _ (le-leb 1 (verdicts c) h) none
 
 -- ---- 10 for the table, 11
 
@@ -126,13 +126,13 @@ module _ (c : Counts) (table : List ℕ) where
       let p = none-append (ceilingTests c) _ (ceilings-numbered c) e in
       legal-words (bounded c (p .0)) (none-append (lampTests c) (wordTests c table) (lamps-numbered c) (p .1) .1)
 
-  -- without a lamp it is 16, whatever the table
-  pub board-lampless : Bounded c → c .lamps ≡ 0 → 16 ≡ refusal (boardTests c table)
+  -- without a lamp or a bad state it is 16, whatever the table
+  pub board-lampless : Bounded c → verdicts c ≡ 0 → 16 ≡ refusal (boardTests c table)
   unfolding boardTests
   board-lampless b z = append-past (ceilingTests c) _ (bounded-passed c b) (refuses-whole (lampTests c) _ _ (no-lamp c z) (λ e. omega arith))
 
   -- with one the words decide
-  pub board-lit : Bounded c → 1 ≤ c .lamps → {k : ℕ} → k ≡ refusal (wordTests c table) → k ≡ refusal (boardTests c table)
+  pub board-lit : Bounded c → 1 ≤ verdicts c → {k : ℕ} → k ≡ refusal (wordTests c table) → k ≡ refusal (boardTests c table)
   unfolding boardTests
   board-lit b h e = append-past (ceilingTests c) _ (bounded-passed c b) (none-past (lampTests c) _ (lamps-numbered c) (some-lamp c h) e)
 

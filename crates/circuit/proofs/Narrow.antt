@@ -1,14 +1,16 @@
--- The tick in cubes is monotone: the next state of a wider cube is wider. Assumes nothing.
+-- The tick in cubes is monotone: what is read in a wider cube, the next state too, is wider. Assumes nothing.
 use mathlib.Core.Path.{refl}
 use mathlib.Core.Bool.{Bool, true, cond}
+use mathlib.Core.List.{List}
+use Prim.Native.Nat.{ℕ}
 use Rattle.three.specs.Lists.{Each}
 use Rattle.three.specs.Value.{Three, code, both, inverse, ternary}
 use Rattle.three.specs.Cube.{Cube, alike, allows}
 use Rattle.three.proofs.Lists.{each-self}
 use Rattle.three.proofs.Fields.{atEach, of-two, allows-self}
 use Rattle.three.proofs.Subsuming.{Wider}
-use Rattle.circuit.specs.Circuit.{Circuit, next}
-use Rattle.circuit.proofs.Sound.{Keeps, next-keeps}
+use Rattle.circuit.specs.Circuit.{Circuit, readings}
+use Rattle.circuit.proofs.Sound.{Keeps, readings-keeps}
 
 -- where both pairs allow, so do the answers of the gate rule
 gateAllows : Three → Three → Three → Three → Bool
@@ -31,5 +33,6 @@ wider-kept = record {
   invert = λ {a} {b} h. invert-wider a b h;
 }
 
-pub next-wider : (c : Circuit) (switches : Cube) {a b : Cube} → Each Wider a b → Each Wider (next ternary c switches a) (next ternary c switches b)
-next-wider c switches h = next-keeps wider-kept c (each-self allows-self switches) h
+pub readings-wider : (c : Circuit) (literals : List ℕ) (switches : Cube) {a b : Cube} → Each Wider a b
+    → Each Wider (readings ternary c literals switches a) (readings ternary c literals switches b)
+readings-wider c literals switches h = readings-keeps wider-kept c (each-self allows-self switches) h literals

@@ -8,7 +8,7 @@ use Rattle.three.specs.Lists.{Each, empty, also}
 use Rattle.three.specs.Value.{Three, Logic, known, both, inverse, boolean, ternary}
 use Rattle.three.specs.Cube.{Cube, Holds, any, off, on, _∋_}
 use Rattle.three.proofs.Lists.{each-getD, each-append, each-map}
-use Rattle.circuit.specs.Circuit.{Circuit, Gate, signed, value, pass, settle, readings, next}
+use Rattle.circuit.specs.Circuit.{Circuit, Gate, signed, value, pass, settle, readings}
 
 -- ---- a relation that the operations of two logics keep is kept by a circuit
 
@@ -38,12 +38,9 @@ module _ {A B : Type 0} {R : A → B → Type 0} {l : Logic A} {m : Logic B} (ke
     unfolding settle
     settle-keeps = pass-keeps (c .gates) (also (keeps .false) (each-append in-switches in-state))
 
-    readings-keeps : (literals : List ℕ) → Each R (readings l c literals switches state) (readings m c literals r s)
+    pub readings-keeps : (literals : List ℕ) → Each R (readings l c literals switches state) (readings m c literals r s)
     unfolding readings
     readings-keeps = each-map _ _ (value-keeps settle-keeps)
-
-    pub next-keeps : Each R (next l c switches state) (next m c r s)
-    next-keeps = readings-keeps _
 
 -- ---- soundness: a field holds a bit
 

@@ -18,6 +18,8 @@ pub record Circuit : Type 0 where
   pub latches : List Latch
   pub lamps : List ℕ
   pub gates : List Gate
+  pub bads : List ℕ
+  pub constraints : List ℕ
 
 module _ {A : Type 0} (logic : Logic A) where
   -- a value as it is, or inverted where the literal is odd
@@ -48,3 +50,10 @@ module _ {A : Type 0} (logic : Logic A) where
   -- lamps are read from the same pass, before the tick
   abbrev pub lamps : Circuit → List A → List A → List A
   lamps c switches state = readings c (c .lamps) switches state
+
+  -- and so are bad states and constraints
+  abbrev pub bads : Circuit → List A → List A → List A
+  bads c switches state = readings c (c .bads) switches state
+
+  abbrev pub constraints : Circuit → List A → List A → List A
+  constraints c switches state = readings c (c .constraints) switches state

@@ -27,6 +27,8 @@ pub record Bounded (c : Counts) : Type 0 where
   pub latches : c .latches ≤ 512
   pub lamps : c .lamps ≤ 64
   pub gates : c .gates ≤ 3327
+  pub bads : c .bads ≤ 64
+  pub constraints : c .constraints ≤ 64
 
 -- A circuit that 3, 10 and 11 do not refuse, rule by rule
 pub record Legal (c : Counts) (words : List ℕ) : Type 0 where

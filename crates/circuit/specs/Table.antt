@@ -8,6 +8,10 @@ use Rattle.circuit.specs.declared.Counts.{Counts}
 use Rattle.circuit.specs.Circuit.{Circuit}
 use Rattle.circuit.specs.Refusal.{Test, _or_, allHold}
 
+-- counts without bad states and constraints
+abbrev pub plainCounts : ℕ → ℕ → ℕ → ℕ → Counts
+plainCounts i l o a = record { inputs = i; latches = l; lamps = o; gates = a; bads = 0; constraints = 0 }
+
 -- M
 abbrev pub variables : Counts → ℕ
 variables c = c .inputs + c .latches + c .gates
@@ -18,15 +22,27 @@ top c = 2 * variables c + 1
 
 -- refusal 3: the ceilings
 unfoldable pub ceilingTests : Counts → List Test
-ceilingTests c = leb (c .inputs) 256 or 3 ∷ leb (c .latches) 512 or 3 ∷ leb (c .lamps) 64 or 3 ∷ leb (c .gates) 3327 or 3 ∷ []
+ceilingTests c =
+    leb (c .inputs) 256 or 3 ∷ leb (c .latches) 512 or 3 ∷ leb (c .lamps) 64 or 3 ∷ leb (c .gates) 3327 or 3
+    ∷ leb (c .bads) 64 or 3 ∷ leb (c .constraints) 64 or 3 ∷ []
 
--- how many lines have one literal
+-- how many verdicts a run gives: one for each lamp, then one for each bad state
+abbrev pub verdicts : Counts → ℕ
+verdicts c = c .lamps + c .bads
+
+-- how many lines have one literal: the lamps, then the bad states, then the constraints
 abbrev pub literals : Counts → ℕ
-literals c = c .lamps
+literals c = verdicts c + c .constraints
 
--- the words of the latches come first; the first literal of those lines, and the first gate, stand at these words
+-- the words of the latches come first; the first literal of those lines, which is a lamp's, the first of the bad states, of the constraints, and the first gate stand at these words
 abbrev pub literalsAt : Counts → ℕ
 literalsAt c = 2 * c .latches
+
+abbrev pub badsAt : Counts → ℕ
+badsAt c = literalsAt c + c .lamps
+
+abbrev pub constraintsAt : Counts → ℕ
+constraintsAt c = literalsAt c + verdicts c
 
 abbrev pub gatesAt : Counts → ℕ
 gatesAt c = literalsAt c + literals c
@@ -45,7 +61,7 @@ unfoldable pub several : (ℕ → Kind) → ℕ → ℕ → List Kind → List K
 several kind own zero ks = ks
 several kind own (suc n) ks = kind own ∷ several kind (own + 2) n ks
 
--- one line for each input, latch, lamp and gate, in that order
+-- one line for each input, latch, lamp, bad state, constraint and gate, in that order
 unfoldable pub kinds : Counts → List Kind
 kinds c =
     several input 2 (c .inputs) (several latch (2 + 2 * c .inputs) (c .latches)
@@ -78,13 +94,15 @@ unfoldable pub tableTests : ℕ → List Kind → List ℕ → List Test
 tableTests most [] ws = []
 tableTests most (k ∷ ks) ws = rowTests most k ws ++ tableTests most ks (drop (width k) ws)
 
--- for each latch its next literal and its reset; then the lamp literals; then two operands a gate
+-- for each latch its next literal and its reset; then the literals of lamps, bad states and constraints; then two operands a gate
 unfoldable pub circuitOf : Counts → List ℕ → Circuit
 circuitOf c words = record {
   inputs = c .inputs;
   latches = tabulate (c .latches) (λ i. record { next = getD words (2 * i) 0; reset = getD words (2 * i + 1) 0 });
   lamps = tabulate (c .lamps) (λ i. getD words (literalsAt c + i) 0);
   gates = tabulate (c .gates) (λ i. record { left = getD words (gatesAt c + 2 * i) 0; right = getD words (gatesAt c + 2 * i + 1) 0 });
+  bads = tabulate (c .bads) (λ i. getD words (badsAt c + i) 0);
+  constraints = tabulate (c .constraints) (λ i. getD words (constraintsAt c + i) 0);
 }
 
 -- 10 for the table, 11
@@ -95,9 +113,9 @@ wordTests c table = leb (tableLength c) (length table) or 10 ∷ allHold (tableT
 unfoldable pub circuitTests : Counts → List ℕ → List Test
 circuitTests c table = ceilingTests c ++ wordTests c table
 
--- 16: a run without a lamp has nothing to judge
+-- 16: a run without a lamp or a bad state has nothing to judge
 unfoldable pub lampTests : Counts → List Test
-lampTests c = leb 1 (c .lamps) or 16 ∷ []
+lampTests c = leb 1 (verdicts c) or 16 ∷ []
 
 -- a circuit that is run: 3, 16, 10 for the table, 11
 unfoldable pub boardTests : Counts → List ℕ → List Test

@@ -1,17 +1,17 @@
 -- One pass for a legal circuit: what the steps of `settle` leave is the circuit's values. Assumes nothing.
-use mathlib.Core.Path.{_≡_, sym, ap, ap₂, _∙_}
+use mathlib.Core.Path.{_≡_, refl, sym, ap, ap₂, _∙_}
 use mathlib.Core.List.{List, _∷_, _++_, map}
-use Prim.Native.Nat.{ℕ, _+_, _*_, _≤_, _<_}
-use native.Mathlib.Nat.{zero-add, one-mul}
+use Prim.Native.Nat.{ℕ, _+_, _-_, _*_, _≤_, _<_}
+use native.Mathlib.Nat.{zero-add, one-mul, add-assoc}
 use native.Mathlib.Omega.{arith}
 use lib.ListN.{length, getD, set, take, length-set, length-append}
 use lib.Seq.{paste, take-paste, take-all, take-suc-set, take-append-seam}
 use Rattle.three.specs.Value.{Three, low, decode, ternary}
 use Rattle.three.specs.Cube.{Cube}
-use Rattle.three.proofs.Lists.{length-tabulate, map-tabulate, tabulate-ext}
+use Rattle.three.proofs.Lists.{length-tabulate, map-tabulate, tabulate-ext, tabulate-append}
 use Rattle.circuit.specs.declared.Counts.{Counts}
-use Rattle.circuit.specs.Circuit.{value, pass, settle, next, lamps, readings}
-use Rattle.circuit.specs.Table.{top, circuitOf, literalsAt, gatesAt}
+use Rattle.circuit.specs.Circuit.{value, pass, settle, next, lamps, constraints, readings}
+use Rattle.circuit.specs.Table.{top, circuitOf, literalsAt, constraintsAt, gatesAt, verdicts}
 use Rattle.circuit.specs.RulesInCode.{Legal}
 use Rattle.pass.specs.ValuesInCode.{valuesOf, Working, Holding, Begins, Gateable, Readable, literalValues, passed}
 use Rattle.circuit.proofs.Pass.{value-take, length-pass}
@@ -70,12 +70,21 @@ module _ (c : Counts) (words : List ℕ) where
 -- ---- a literal of the circuit is read from the values that the table begins with
 
 module _ (c : Counts) (words : List ℕ) (legal : Legal c words) where
-  -- the literals of the latches' next states, and of the lamps
+  -- the literals of the latches' next states, those of the lines of one literal, and the lamps among them
   pub next-readable : Readable words 0 2 (c .latches)
   next-readable = record { long = λ i h. omega (arith, legal .long); small = λ i h. rw zero-add (omega (arith, legal .next i h, legal .bounded)) }
 
+  literal-small : (k : ℕ) → literalsAt c ≤ k → k < gatesAt c → getD words k 0 ≤ top c
+  literal-small k l h = let place : literalsAt c + (k - literalsAt c) ≡ k = omega arith in rw place at (legal .literal (k - literalsAt c) (omega arith))
+
+  pub literals-readable : (at count : ℕ) → literalsAt c ≤ at → at + count ≤ gatesAt c → Readable words at 1 count
+  literals-readable at count l h = record {
+    long = λ i k. omega (arith, legal .long);
+    small = λ i k. rw one-mul (omega (arith, literal-small (at + i) (omega arith) (omega arith), legal .bounded));
+  }
+
   pub lamps-readable : Readable words (literalsAt c) 1 (c .lamps)
-  lamps-readable = record { long = λ i h. omega (arith, legal .long); small = λ i h. rw one-mul (omega (arith, legal .literal i h, legal .bounded)) }
+  lamps-readable = literals-readable (literalsAt c) (c .lamps) (omega arith) (omega arith)
 
   module _ (switches state : Cube) (sized : length switches ≡ c .inputs) (sized′ : length state ≡ c .latches) (table : List ℕ)
       (begins : Begins table (settle ternary (circuitOf c words) switches state)) where
@@ -103,6 +112,24 @@ module _ (c : Counts) (words : List ℕ) (legal : Legal c words) where
     unfolding circuitOf
     next-stored = readings-stored 0 2 (c .latches) (tabulate-ext (c .latches) _ _ (λ i h. rw zero-add) ∙ sym (map-tabulate _ (c .latches) _)) (λ i h. rw zero-add (legal .next i h))
 
+    literals-stored : (at count : ℕ) → literalsAt c ≤ at → at + count ≤ gatesAt c → {literals : List ℕ} → tabulate count (λ i. getD words (at + i) 0) ≡ literals
+        → literalValues (valuesOf table) words at 1 count ≡ readings ternary (circuitOf c words) literals switches state
+    literals-stored at count l h same =
+        readings-stored at 1 count (tabulate-ext count _ _ (λ i k. rw one-mul) ∙ same)
+        (λ i k. rw one-mul (literal-small (at + i) (omega arith) (omega arith)))
+
     pub lamps-stored : literalValues (valuesOf table) words (literalsAt c) 1 (c .lamps) ≡ lamps ternary (circuitOf c words) switches state
     unfolding circuitOf
-    lamps-stored = readings-stored (literalsAt c) 1 (c .lamps) (tabulate-ext (c .lamps) _ _ (λ i h. rw one-mul)) (λ i h. rw one-mul (legal .literal i h))
+    lamps-stored = literals-stored (literalsAt c) (c .lamps) (omega arith) (omega arith) refl
+
+    -- what gets a verdict: the lamps, and behind them the bad states
+    pub verdicts-stored : literalValues (valuesOf table) words (literalsAt c) 1 (verdicts c) ≡ readings ternary (circuitOf c words) (circuitOf c words .lamps ++ circuitOf c words .bads) switches state
+    unfolding circuitOf
+    verdicts-stored =
+        literals-stored (literalsAt c) (verdicts c) (omega arith) (omega arith)
+        (tabulate-append (c .lamps) (c .bads) _
+        ∙ ap (λ (bs : List ℕ). circuitOf c words .lamps ++ bs) (tabulate-ext (c .bads) _ _ (λ i h. ap (λ (k : ℕ). getD words k 0) (sym (add-assoc (literalsAt c) (c .lamps) i)))))
+
+    pub constraints-stored : literalValues (valuesOf table) words (constraintsAt c) 1 (c .constraints) ≡ constraints ternary (circuitOf c words) switches state
+    unfolding circuitOf
+    constraints-stored = literals-stored (constraintsAt c) (c .constraints) (omega arith) (omega arith) refl

@@ -47,14 +47,14 @@ fn put_variable(values: &mut Values, v: usize, x: u8)
 const SIGN: [[u8; 3]; 2] = [[0, 1, 2], [0, 2, 1]];
 
 // As the gate table, made once and lent to each reading.
-fn sign_table() -> [[u8; 3]; 2]
+pub fn sign_table() -> [[u8; 3]; 2]
     ensures { λ r. ⌜ r ≡ signTable ⌝ }
 {
     SIGN
 }
 
 // A literal is 2 × variable, plus 1 if inverted.
-fn literal(signs: &[[u8; 3]; 2], values: &Values, x: u16) -> u8
+pub fn literal(signs: &[[u8; 3]; 2], values: &Values, x: u16) -> u8
     requires { ⌜ (now signs ≡ signTable) × (x < 8192) × Working (now values) ⌝ }
     ensures { λ r. ⌜ r ≡ code (value ternary (valuesOf (now (values .entry))) x) ⌝ }
 {

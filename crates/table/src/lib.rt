@@ -1,5 +1,7 @@
 // The refusals of a table of words: 3, 10 and 11 (specification, 3.5 to 3.7), and 16 for a run (5.8).
 use circuit::Counts;
+use circuit::MOST_BADS;
+use circuit::MOST_CONSTRAINTS;
 use circuit::MOST_GATES;
 use circuit::MOST_INPUTS;
 use circuit::MOST_LAMPS;
@@ -71,7 +73,7 @@ fn gates_kept(table: &[u16], at: usize, count: usize, own: usize) -> bool
     true
 }
 
-// It takes 2 × L + O + 2 × A words.
+// It takes 2 × L + O + B + C + 2 × A words.
 pub fn table_length(counts: Counts) -> usize
     requires { ⌜ Bounded counts ⌝ }
     ensures { λ r. ⌜ r ≡ tableLength counts ⌝ }
@@ -116,6 +118,12 @@ pub fn ceiling_refusal(counts: Counts) -> u32
     if counts.gates > MOST_GATES {
         return 3;
     }
+    if counts.bads > MOST_BADS {
+        return 3;
+    }
+    if counts.constraints > MOST_CONSTRAINTS {
+        return 3;
+    }
     0
 }
 
@@ -152,7 +160,7 @@ pub fn board_refusal(counts: Counts, table: &[u16]) -> u32
     if refused != 0 {
         return refused;
     }
-    if counts.lamps == 0 {
+    if circuit::verdicts(counts) == 0 {
         return 16;
     }
     word_refusal(counts, table)

@@ -15,6 +15,9 @@ returns : tie.Need-returns
 unfolding boardTests
 returns c = refuses-whole _ _ _ (c .before .ceiling-refusal .ensures) (c .if1 .taken)
 
+verdicts-requires : tie.Need-verdicts-requires
+verdicts-requires c κs = bounded _ (sym (c .if1 .left) ∙ c .before .ceiling-refusal .ensures)
+
 returns-2 : tie.Need-returns-2
 returns-2 c = board-lampless _ _ (bounded _ (sym (c .before .before .if1 .left) ∙ c .before .before .before .ceiling-refusal .ensures)) (omega arith)
 
@@ -29,4 +32,4 @@ returns-3 c =
 pub board-refusal-spec : {M : Type 1} → statement M
 board-refusal-spec =
     tie.close
-    (tie.spec ceiling-refusal-requires returns returns-2 word-refusal-requires returns-3)
+    (tie.spec ceiling-refusal-requires returns verdicts-requires returns-2 word-refusal-requires returns-3)
