@@ -4,25 +4,23 @@ use mathlib.Core.Bool.{Bool, true, false}
 use mathlib.Core.List.{List, [], _∷_, _++_}
 use Prim.Native.Nat.{ℕ, zero, suc, _+_, _≤_, _<_}
 use native.Mathlib.Omega.{arith}
-use borrow.Author.Tests.{eq-eqb, ne-eqb, le-leb, lt-leb}
-use lib.Dec.{leb, eqb}
+use borrow.Author.Tests.{le-leb, lt-leb}
+use lib.Dec.{leb}
 use lib.ListN.{length, getD}
 use Rattle.three.specs.Lists.{over}
-use Rattle.three.proofs.Lists.{by-test}
 use Rattle.circuit.specs.declared.Counts.{Counts}
 use Rattle.circuit.specs.Refusal.{Test, _or_, refusal}
-use Rattle.circuit.specs.Table.{variables, tableLength, ceilingTests}
-use Rattle.circuit.proofs.Refusals.{Numbered, stops, past, none, passes, fails, passed-refusal, refuses-whole, none-past}
-use Rattle.circuit.proofs.Legality.{ceilings-alike}
+use Rattle.circuit.specs.Table.{variables, tableLength}
+use Rattle.circuit.proofs.Refusals.{Numbered, stops, past, none, refuses-whole, none-past}
 use Rattle.text.specs.Part.{ill}
 use Rattle.text.specs.Outcome.{Outcome, accepted, refused, numberOf, tested, leaves}
 use Rattle.text.specs.OutcomeInCode.{after}
-use Rattle.text.specs.Text.{ends, header, countsOf}
+use Rattle.text.specs.Text.{ends, header, countsOf, countTests}
 use Rattle.text.specs.Calls.{zeros}
 use Rattle.text.proofs.Outcomes.{tested-stops, tested-past}
 use Rattle.lines.specs.declared.ReadLine.{ReadLine}
 use Rattle.lines.specs.LinesInCode.{Shape, numbersOf}
-use Rattle.lines.proofs.Finding.{line-length}
+use Rattle.reader.proofs.Opening.{counts-numbered, count-few}
 use Rattle.drawn.specs.Drawing.{Drawing, drawingTests, table, renumbered}
 use Rattle.drawn.specs.Lines.{anyHeaderTests, drawing, afterTests, roomTests, LeftBy}
 
@@ -44,33 +42,29 @@ left-same e f = rw e f
 
 -- ---- 2 and 3
 
--- a test with the number that the others give anyway
-pub either : (b : Bool) (ts : List Test) {k : ℕ} → k ≡ refusal ts → k ≡ refusal (b or k ∷ ts)
-either b ts h = by-test b (λ e. past _ ts e h) (stops _ ts)
-
-module _ (l : ReadLine) (s : Shape l) where
-  pub header-count : (l .count ≡ 5 → ⊥) → 2 ≡ refusal (anyHeaderTests (numbersOf l))
+module _ (ns : List ℕ) {k : ℕ} (counted : k ≡ refusal (countTests ns)) where
+  pub header-refused : (k ≡ 0 → ⊥) → k ≡ refusal (anyHeaderTests ns)
   unfolding anyHeaderTests
-  header-count h = stops _ _ (rw (line-length l s) (ne-eqb (l .count) 5 h))
+  header-refused = refuses-whole (countTests ns) _ k counted
 
-  module _ (five : l .count ≡ 5) {c : Counts} (e : c ≡ countsOf (numbersOf l)) where
-    header-past : {k : ℕ} → k ≡ refusal (leb (getD (numbersOf l) 0 0) 4095 or 3 ∷ leb (variables c) (getD (numbersOf l) 0 0) or 3 ∷ ceilingTests c) → k ≡ refusal (anyHeaderTests (numbersOf l))
+  module _ (none-yet : k ≡ 0) {c : Counts} (e : c ≡ countsOf ns) {m : ℕ} (given : m ≡ getD ns 0 0) where
+    header-past : {n : ℕ} → n ≡ refusal (leb m 4095 or 3 ∷ leb (variables c) m or 3 ∷ []) → n ≡ refusal (anyHeaderTests ns)
     unfolding anyHeaderTests
-    header-past h = past _ _ (rw (line-length l s) (eq-eqb (l .count) 5 five)) (rw e at h)
+    header-past h = none-past (countTests ns) _ (counts-numbered ns) (sym none-yet ∙ counted) (rw (e, given) at h)
 
-    pub header-over : {k : ℕ} → k ≡ refusal (ceilingTests c) → (k ≡ 0 → ⊥) → 3 ≡ refusal (anyHeaderTests (numbersOf l))
-    header-over r h = header-past (either _ _ (either _ _ (fails 3 (ceilingTests c) (ceilings-alike c) (λ p. h (r ∙ sym (passed-refusal (ceilingTests c) p))))))
+    pub header-many : 4095 < m → 3 ≡ refusal (anyHeaderTests ns)
+    header-many h = header-past (stops _ _ (lt-leb m 4095 h))
 
-    module _ {m : ℕ} (given : m ≡ getD (numbersOf l) 0 0) where
-      pub header-many : 4095 < m → 3 ≡ refusal (anyHeaderTests (numbersOf l))
-      header-many h = header-past (stops _ _ (lt-leb (getD (numbersOf l) 0 0) 4095 (rw (← given) h)))
+    module _ (few : m ≤ 4095) where
+      pub header-few : m < variables c → 3 ≡ refusal (anyHeaderTests ns)
+      header-few h = header-past (past _ _ (le-leb m 4095 few) (stops _ _ (lt-leb (variables c) m h)))
 
-      module _ (few : m ≤ 4095) where
-        pub header-few : m < variables c → 3 ≡ refusal (anyHeaderTests (numbersOf l))
-        header-few h = header-past (past _ _ (le-leb (getD (numbersOf l) 0 0) 4095 (rw (← given) few)) (stops _ _ (lt-leb (variables c) (getD (numbersOf l) 0 0) (rw (← given) h))))
+      pub header-passes : variables c ≤ m → 0 ≡ refusal (anyHeaderTests ns)
+      header-passes h = header-past (past _ _ (le-leb m 4095 few) (past _ _ (le-leb (variables c) m h) none))
 
-        pub header-passes : {k : ℕ} → k ≡ refusal (ceilingTests c) → k ≡ 0 → variables c ≤ m → 0 ≡ refusal (anyHeaderTests (numbersOf l))
-        header-passes r z h = header-past (past _ _ (le-leb (getD (numbersOf l) 0 0) 4095 (rw (← given) few)) (past _ _ (le-leb (variables c) (getD (numbersOf l) 0 0) (rw (← given) h)) (sym z ∙ r)))
+-- an ill-formed line has no numbers
+pub header-missing : (l : ReadLine) → Shape l → l .count ≡ 0 → 2 ≡ refusal (anyHeaderTests (numbersOf l))
+header-missing l s z = header-refused (numbersOf l) (count-few l s (omega arith)) (λ e. omega arith)
 
 -- ---- 20, 21, 22, then 9, then 10
 

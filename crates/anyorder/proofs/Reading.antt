@@ -4,7 +4,7 @@ use mathlib.Core.Bool.{true, false}
 use mathlib.Core.List.{List, [], _++_}
 use Prim.Native.Nat.{ℕ, zero, suc, _+_, _≤_, _<_}
 use native.Mathlib.Omega.{arith}
-use borrow.Author.Tests.{le-leb, lt-leb, leb-true, ltb-true, ltb-false}
+use borrow.Author.Tests.{le-leb, lt-leb, ltb-true, ltb-false}
 use lib.Dec.{leb, ltb}
 use lib.ListN.{length, getD, take}
 use lib.Seq.{length-take-le}
@@ -14,23 +14,22 @@ use Rattle.circuit.specs.Refusal.{Test, _or_, refusal}
 use Rattle.circuit.specs.RulesInCode.{Passed, Bounded}
 use Rattle.circuit.specs.Table.{variables, ceilingTests, kinds}
 use Rattle.circuit.proofs.Refusals.{Numbered, stops, past, none, passes, none-past, refusal-append}
-use Rattle.circuit.proofs.Legality.{passed-bounded}
 use Rattle.text.specs.Part.{got, ill}
 use Rattle.text.specs.Outcome.{Outcome, accepted, refused, tested, further, onward}
 use Rattle.text.specs.OutcomeInCode.{after}
-use Rattle.text.specs.Text.{Lines, header, countsOf, endingOf}
+use Rattle.text.specs.Text.{Lines, header, countsOf, countTests, endingOf}
 use Rattle.text.proofs.Outcomes.{tested-stops, tested-past}
 use Rattle.lines.specs.declared.ReadLine.{ReadLine}
 use Rattle.lines.specs.LinesInCode.{from, numbersOf, LineFound}
 use Rattle.lines.proofs.Finding.{line-got, line-ill-formed}
 use Rattle.drawn.specs.Drawing.{Drawing}
 use Rattle.drawn.specs.Lines.{anyHeaderTests, bodyOf, drawing, afterTests, readDrawing, readAnyEnded, readAny, roomTests, readAnyInto}
-use Rattle.drawn.proofs.Reading.{drawing-lines, text-fits, accepted-small}
+use Rattle.drawn.proofs.Reading.{drawing-lines, text-fits, any-header, accepted-small}
 use Rattle.listing.specs.declared.Progress.{Progress}
 use Rattle.listing.specs.ListingInCode.{BodyListed}
 use Rattle.reader.proofs.Bodies.{after-none}
 use Rattle.defined.specs.Places.{Spoken}
-use Rattle.anyorder.proofs.Answering.{header-count, all, after-numbered}
+use Rattle.anyorder.proofs.Answering.{header-missing, all, after-numbered}
 
 -- ---- the lines
 
@@ -62,13 +61,13 @@ module _ {ending text : List ℕ} {at : ℕ} {c : Counts} {most : ℕ} {owns wor
   pub lines-kept : Bounded c → 4095 ≤ length owns → r .line ≤ length owns′
   lines-kept f h = omega (arith, b .line z, b .owns-long, f)
 
-  pub words-kept : Bounded c → 7742 ≤ length words → r .word ≤ length words′
+  pub words-kept : Bounded c → 7870 ≤ length words → r .word ≤ length words′
   words-kept f h = omega (arith, b .word z, b .words-long, f)
 
   pub owns-enough : Bounded c → 4095 ≤ length owns → variables c ≤ length (take (r .line) owns′)
   owns-enough f h = rw (length-take-le (r .line) owns′ (lines-kept f h)) (omega (arith, b .line z))
 
-  pub spoken : Bounded c → 7742 ≤ length words → most < 8192 → Spoken c (take (r .word) words′)
+  pub spoken : Bounded c → 7870 ≤ length words → most < 8192 → Spoken c (take (r .word) words′)
   spoken f h m = record {
     bounded = f;
     long = rw (length-take-le (r .word) words′ (words-kept f h)) (omega (arith, b .word z));
@@ -97,7 +96,7 @@ module _ (text words names : List ℕ) {ending : List ℕ} (decided : endingOf t
     first-refused z = stops-at (tested-past _ _ (past _ [] (le-leb (length text) 60000 short) none) ∙ by-test (ltb 0 (l .count))
         (λ b. rw (line-got l f (ltb-true 0 (l .count) b)) (go n e z _))
         (λ b. let y : l .count ≡ 0 = omega (arith, ltb-false 0 (l .count) b) in
-        let two : n ≡ 2 = e ∙ sym (header-count l (f .shape) (λ x. omega arith)) in
+        let two : n ≡ 2 = e ∙ sym (header-missing l (f .shape) y) in
         rw (line-ill-formed l f y, two)))
       where
         go : (n : ℕ) → n ≡ refusal (anyHeaderTests (numbersOf l)) → (n ≡ 0 → ⊥) → (o : Outcome Drawing) → tested (anyHeaderTests (numbersOf l)) o ≡ refused n
@@ -106,25 +105,23 @@ module _ (text words names : List ℕ) {ending : List ℕ} (decided : endingOf t
 
     module _ (h : n ≡ 0) where
       header-numbered : Numbered (anyHeaderTests (numbersOf l))
-      unfolding anyHeaderTests ceilingTests
+      unfolding anyHeaderTests countTests ceilingTests
       header-numbered = omega arith
 
       passed : Passed (anyHeaderTests (numbersOf l))
       passed = passes (anyHeaderTests (numbersOf l)) header-numbered (sym h ∙ e)
 
-      five : header ending text ≡ got (numbersOf l) (from text (l .next))
-      five = by-test (ltb 0 (l .count))
+      first-got : header ending text ≡ got (numbersOf l) (from text (l .next))
+      first-got = by-test (ltb 0 (l .count))
           (λ b. line-got l f (ltb-true 0 (l .count) b))
-          (λ b. absurd (omega (arith, header-count l (f .shape) (λ x. omega (arith, ltb-false 0 (l .count) b)))))
+          (λ b. absurd (omega (arith, header-missing l (f .shape) (omega (arith, ltb-false 0 (l .count) b)))))
 
       module _ {c : Counts} (k : c ≡ countsOf (numbersOf l)) {m : ℕ} (given : m ≡ getD (numbersOf l) 0 0) where
         pub first-bounded : Bounded c
-        unfolding anyHeaderTests
-        first-bounded = rw k (passed-bounded _ (passed .1 .1 .1))
+        first-bounded = rw k (any-header (numbersOf l) passed .0)
 
         pub first-most : m ≤ 4095
-        unfolding anyHeaderTests
-        first-most = rw given (leb-true (getD (numbersOf l) 0 0) 4095 (passed .1 .0))
+        first-most = rw given (any-header (numbersOf l) passed .1)
 
         pub goes-on : readAnyInto text words names ≡ further (roomTests words names) (readDrawing ending m c (from text (l .next)))
-        goes-on = read-so (text-fits ending text short five passed ∙ rw (k, given))
+        goes-on = read-so (text-fits ending text short first-got passed ∙ rw (k, given))

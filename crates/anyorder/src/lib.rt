@@ -20,18 +20,16 @@ ghost use Rattle.defined.specs.Places.{held, Spoken};
 // M is at most 4,095.
 const MOST_VARIABLES: usize = 4095;
 
-// 2 and 3, for the first line; 0 for none. An ill-formed line has no numbers, which is 2.
+// 2 and 3, for the first line; 0 for none.
 fn header_refusal(first: ReadLine) -> u32
     requires { ⌜ Shape first ⌝ }
     ensures { λ r. ⌜ r ≡ refusal (anyHeaderTests (numbersOf first)) ⌝ }
 {
-    if first.count != 5 {
-        return 2;
+    let counted = reader::count_refusal(first);
+    if counted != 0 {
+        return counted;
     }
     let counts = reader::counts_of(first);
-    if table::ceiling_refusal(counts) != 0 {
-        return 3;
-    }
     let most = lines::entry(first, 0);
     if most > MOST_VARIABLES {
         return 3;
@@ -42,7 +40,7 @@ fn header_refusal(first: ReadLine) -> u32
     0
 }
 
-// The answer: the number of a refusal, or 0 with I, L, O and A, and M.
+// The answer: the number of a refusal, or 0 with the counts, and M.
 #[repr(C)]
 pub struct ReadAnyAnswer {
     pub number: u32,
@@ -53,14 +51,11 @@ pub struct ReadAnyAnswer {
 fn refused(number: u32) -> ReadAnyAnswer
     ensures { λ r. ⌜ (r .number ≡ number) × (r .counts ≡ zeros) × (r .variables ≡ 0) ⌝ }
 {
+    let refusal = reader::refused(number);
+    let zeros = refusal.counts;
     ReadAnyAnswer {
         number: number,
-        counts: Counts {
-            inputs: 0,
-            latches: 0,
-            lamps: 0,
-            gates: 0,
-        },
+        counts: zeros,
         variables: 0,
     }
 }
@@ -116,7 +111,7 @@ fn read_body(
     ensures { λ r. ⌜ LeftBy (further (roomTests (now (table .entry)) (now (renumbered .entry))) (readDrawing (endingBytes ending) most counts (from (now (text .entry)) at))) (now (table .entry)) (now (renumbered .entry)) (r .number) (r .counts) (r .variables) (now (table .exit)) (now (renumbered .exit)) ⌝ }
 {
     let mut owns = [0u32; 4095];
-    let mut words = [0u16; 7742];
+    let mut words = [0u16; 7870];
     let listed = listing::list_body(
         text,
         at,

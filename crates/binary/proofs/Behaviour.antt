@@ -1,7 +1,7 @@
 -- Ordering keeps a circuit's behaviour: the gate rule does not ask which operand comes first, in either logic. Assumes nothing.
 use mathlib.Core.Path.{_≡_, refl, _∙_, ap}
 use mathlib.Core.Bool.{Bool, true, false, _&&_}
-use mathlib.Core.List.{List, [], _∷_, _++_}
+use mathlib.Core.List.{List, [], _∷_, _++_, map}
 use Prim.Native.Nat.{ℕ, zero, suc, _+_, _*_, _≤_, _<_, max, min, suc-le-suc}
 use native.Mathlib.Omega.{arith}
 use borrow.Author.Tests.{leb-true, leb-false}
@@ -13,8 +13,8 @@ use Rattle.three.specs.Cube.{alike}
 use Rattle.three.proofs.Lists.{by-test, tabulate-ext}
 use Rattle.three.proofs.Fields.{of-two, alike-same}
 use Rattle.circuit.specs.declared.Counts.{Counts}
-use Rattle.circuit.specs.Circuit.{Circuit, Gate, value, pass, settle, readings, next, lamps}
-use Rattle.circuit.specs.Table.{tableLength, literalsAt, circuitOf}
+use Rattle.circuit.specs.Circuit.{Circuit, Latch, Gate, value, pass, settle, readings, next, lamps, bads, constraints}
+use Rattle.circuit.specs.Table.{tableLength, literalsAt, badsAt, constraintsAt, circuitOf}
 use Rattle.binary.specs.Ordered.{ordered}
 use Rattle.binary.proofs.Ordering.{ordered-before, ordered-larger, ordered-smaller}
 
@@ -30,7 +30,7 @@ pub both-commutes : (a b : Three) → both a b ≡ both b a
 unfolding alike both code
 both-commutes a b = alike-same _ _ (of-two (λ a b. alike (both a b) (both b a)) refl a b)
 
--- ---- latches, with their resets, and lamps are the same
+-- ---- latches, with their resets, lamps, bad states and constraints are the same
 
 module _ (c : Counts) (table : List ℕ) (h : tableLength c ≤ length table) where
   pub latches-kept : circuitOf c (ordered c table) .latches ≡ circuitOf c table .latches
@@ -41,7 +41,22 @@ module _ (c : Counts) (table : List ℕ) (h : tableLength c ≤ length table) wh
   unfolding circuitOf
   lamps-alike = tabulate-ext (c .lamps) _ _ (λ i k. ordered-before c table h (literalsAt c + i) (omega arith))
 
+  bads-alike : circuitOf c (ordered c table) .bads ≡ circuitOf c table .bads
+  unfolding circuitOf
+  bads-alike = tabulate-ext (c .bads) _ _ (λ i k. ordered-before c table h (badsAt c + i) (omega arith))
+
+  constraints-alike : circuitOf c (ordered c table) .constraints ≡ circuitOf c table .constraints
+  unfolding circuitOf
+  constraints-alike = tabulate-ext (c .constraints) _ _ (λ i k. ordered-before c table h (constraintsAt c + i) (omega arith))
+
 -- ---- so are the values of all variables, in a logic whose gate rule commutes
+
+-- What two circuits do alike in a logic: next states, lamps, bad states and constraints
+pub record AlikeIn {A : Type 0} (logic : Logic A) (a b : Circuit) : Type 0 where
+  pub nexts : (switches state : List A) → next logic a switches state ≡ next logic b switches state
+  pub lit : (switches state : List A) → lamps logic a switches state ≡ lamps logic b switches state
+  pub bad : (switches state : List A) → bads logic a switches state ≡ bads logic b switches state
+  pub constrained : (switches state : List A) → constraints logic a switches state ≡ constraints logic b switches state
 
 module _ {A : Type 0} (logic : Logic A) where
   -- a gate's value
@@ -70,30 +85,31 @@ module _ {A : Type 0} (logic : Logic A) where
       settle-ordered switches state = pass-alike (c .gates) _ _
           (λ i k values. rw (ordered-larger c table h i k, ordered-smaller c table h i k) (larger-first values _ _)) _
 
-      pub next-kept : (switches state : List A) → next logic (circuitOf c (ordered c table)) switches state ≡ next logic (circuitOf c table) switches state
+      readings-kept : {literals literals′ : List ℕ} → literals ≡ literals′ → (switches state : List A)
+          → readings logic (circuitOf c (ordered c table)) literals switches state ≡ readings logic (circuitOf c table) literals′ switches state
       unfolding readings
-      next-kept switches state = rw (settle-ordered switches state, latches-kept c table h)
+      readings-kept same switches state = rw (settle-ordered switches state, same)
 
-      pub lamps-kept : (switches state : List A) → lamps logic (circuitOf c (ordered c table)) switches state ≡ lamps logic (circuitOf c table) switches state
-      unfolding readings
-      lamps-kept switches state = rw (settle-ordered switches state, lamps-alike c table h)
+      pub kept : AlikeIn logic (circuitOf c (ordered c table)) (circuitOf c table)
+      kept = record {
+        nexts = λ switches state. readings-kept (ap (λ (ls : List Latch). map (λ l. l .next) ls) (latches-kept c table h)) switches state;
+        lit = readings-kept (lamps-alike c table h);
+        bad = readings-kept (bads-alike c table h);
+        constrained = readings-kept (constraints-alike c table h);
+      }
 
 -- ---- in both logics
 
--- What a circuit does: its next state and its lamps, in Boolean values and in cubes
+-- Two circuits do the same, in Boolean values and in cubes, and start alike
 pub record Alike (a b : Circuit) : Type 0 where
-  pub next-boolean : (switches state : List Bool) → next boolean a switches state ≡ next boolean b switches state
-  pub lamps-boolean : (switches state : List Bool) → lamps boolean a switches state ≡ lamps boolean b switches state
-  pub next-ternary : (switches state : List Three) → next ternary a switches state ≡ next ternary b switches state
-  pub lamps-ternary : (switches state : List Three) → lamps ternary a switches state ≡ lamps ternary b switches state
+  pub in-boolean : AlikeIn boolean a b
+  pub in-ternary : AlikeIn ternary a b
   pub latches : a .latches ≡ b .latches
 
 pub behaviour-kept : (c : Counts) (table : List ℕ) → tableLength c ≤ length table → Alike (circuitOf c (ordered c table)) (circuitOf c table)
 unfolding boolean ternary
 behaviour-kept c table h = record {
-  next-boolean = next-kept boolean and-commutes c table h;
-  lamps-boolean = lamps-kept boolean and-commutes c table h;
-  next-ternary = next-kept ternary both-commutes c table h;
-  lamps-ternary = lamps-kept ternary both-commutes c table h;
+  in-boolean = kept boolean and-commutes c table h;
+  in-ternary = kept ternary both-commutes c table h;
   latches = latches-kept c table h;
 }

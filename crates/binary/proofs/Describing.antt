@@ -1,5 +1,5 @@
 -- The bytes that describe a circuit, each gate with its larger operand first (specification, 4.16), are read; what is written describes one. Assumes nothing.
-use mathlib.Core.Path.{_≡_, refl, _∙_, ap₂}
+use mathlib.Core.Path.{_≡_, refl, _∙_, ap, ap₂}
 use mathlib.Core.Bool.{true}
 use mathlib.Core.List.{List, [], _∷_, _++_, append-assoc}
 use Prim.Native.Nat.{ℕ, suc, _-_, _≤_, _<_, max, min}
@@ -16,12 +16,13 @@ use Rattle.circuit.proofs.Refusals.{passed-append, passed-refusal}
 use Rattle.text.specs.Part.{got}
 use Rattle.text.specs.Line.{newline, lineText}
 use Rattle.text.specs.Outcome.{accepted, onward}
-use Rattle.text.specs.Text.{writeRows, headNumbers, firstLine, fits, words, lineTests, countsOf, Content}
+use Rattle.text.specs.Text.{writeRows, firstLine, fits, words, lineTests, Content}
 use Rattle.text.proofs.Lines.{Short, newline-proper, line-split}
 use Rattle.text.proofs.Steps.{end-fits, header-fits}
 use Rattle.text.proofs.Tables.{Due, Owned, owned-kinds, Taken, taken}
 use Rattle.text.proofs.Spelling.{Spelled, Seen, seen, drop-words, shown-spelled, lampLine}
-use Rattle.text.proofs.Grammar.{Closing, closing-ends, head-fits, header-back}
+use Rattle.text.proofs.Heads.{Heads, heads-fit}
+use Rattle.text.proofs.Grammar.{Closing, closing-ends, header-back}
 use Rattle.binary.specs.Gate.{differences, gateBytes}
 use Rattle.binary.specs.Binary.{binaryMagic, rowBytes, owned, readRow, readRows, circuitRows, readBinary}
 use Rattle.binary.proofs.OrderedRows.{orderedRow, orderedRows}
@@ -40,8 +41,10 @@ pub record BinaryDescribes (t : List ℕ) (c : Content) : Type 0 where
   pub short : length t ≤ 60000
   pub legal : 0 ≡ refusal (circuitTests (c .counts) (c .words))
   pub whole : length (c .words) ≡ tableLength (c .counts)
+  pub head : List ℕ
+  pub heads : Heads (c .counts) head
   pub body : List ℕ
-  pub text : t ≡ binaryMagic ++ (lineText (headNumbers (c .counts)) ++ body)
+  pub text : t ≡ binaryMagic ++ (lineText head ++ body)
   pub rest : List ℕ
   pub says : RowsSay rest (kinds (c .counts)) (c .words) body
   pub closes : Closing newline rest
@@ -86,14 +89,15 @@ says-read most m o (gateRow {own = own} {left = left} {right = right} {ks = ks} 
     row-on most (gate own) ks _ (gate-says most own left right t (omega arith) (ltb-true left own (p .1 .1 .0)) h) (says-read most m (o .1) s (p .1 .1 .1 .1))
 
 pub described-read : {t : List ℕ} {c : Content} → BinaryDescribes t c → readBinary t ≡ accepted c
-unfolding readBinary headNumbers countsOf onward
+unfolding readBinary onward
 described-read {t} {c} d =
     let n : Counts = c .counts in
     let k : Taken n (c .words) = taken n (c .words) (d .legal) in
-    let b = k .bounded in
-    let first : firstLine binaryMagic newline t ≡ got (headNumbers n) (d .body) = rw (d .text) (header-back binaryMagic newline-proper n b (d .body)) in
-    header-fits binaryMagic newline circuitRows t (d .short) first (passed-refusal _ (head-fits n b .1))
-    ∙ rw (end-fits newline (says-read (top n) (omega arith) (owned-kinds n) (d .says) (k .rules)) (closing-ends newline (d .closes)))
+    let f = heads-fit (d .heads) (k .bounded) in
+    let first : firstLine binaryMagic newline t ≡ got (d .head) (d .body) = rw (d .text) (header-back binaryMagic newline-proper (d .heads) (k .bounded) (d .body)) in
+    header-fits binaryMagic newline circuitRows t (d .short) first (passed-refusal _ (f .passes))
+    ∙ rw (f .counts, end-fits newline (says-read (top n) (omega arith) (owned-kinds n) (d .says) (k .rules)) (closing-ends newline (d .closes)))
+    (ap (λ (m : Counts). accepted (record { counts = m; words = c .words })) (f .counts))
 
 -- ---- what is written says them
 

@@ -1,6 +1,6 @@
 -- Which bytes are accepted: exactly those that describe a circuit which 3, 10 and 11 do not refuse, each gate with its larger operand first
 -- (specification, 4.16). Assumes nothing.
-use mathlib.Core.Path.{_≡_, sym, _∙_, ap, subst, subst⁻¹}
+use mathlib.Core.Path.{_≡_, sym, _∙_, subst, subst⁻¹}
 use mathlib.Core.List.{List, [], _∷_, _++_}
 use mathlib.Core.Logic.{_↔_}
 use Prim.Native.Nat.{ℕ}
@@ -13,7 +13,8 @@ use Rattle.text.proofs.Outcomes.{accepted-same}
 use Rattle.text.proofs.Lines.{split-line}
 use Rattle.text.proofs.Steps.{header-accepted}
 use Rattle.text.proofs.Spelling.{spelled}
-use Rattle.text.proofs.Grammar.{ends-closing, head-counts, header-text}
+use Rattle.text.proofs.Heads.{head-shows}
+use Rattle.text.proofs.Grammar.{ends-closing, header-text}
 use Rattle.binary.specs.Gate.{differences, gateBytes}
 use Rattle.binary.specs.Binary.{binaryMagic, Row, owned, readRow, readRows, circuitRows, readBinary}
 use Rattle.binary.proofs.Differences.{Bytes}
@@ -76,14 +77,16 @@ read-describes t {c} bytes a =
     let r : BinaryRead c = binary-read t a in
     let h = header-accepted binaryMagic newline circuitRows t a in
     let n : Counts = countsOf (h .numbers) in
-    let text = header-text binaryMagic newline t (h .split) in
-    let behind : Bytes (h .behind) = bytes-behind (lineText (h .numbers)) (h .behind) (bytes-behind binaryMagic (lineText (h .numbers) ++ h .behind) (subst Bytes text bytes)) in
+    let first = header-text binaryMagic newline t (h .split) in
+    let behind : Bytes (h .behind) = bytes-behind (lineText (h .numbers)) (h .behind) (bytes-behind binaryMagic (lineText (h .numbers) ++ h .behind) (subst Bytes (first .0) bytes)) in
     rw (← (h .gives)) (record {
       short = h .short;
       legal = rw (← (h .gives)) at (r .legal);
       whole = rw (← (h .gives)) at (r .whole);
+      head = h .numbers;
+      heads = head-shows (h .numbers) (first .1) (h .passes);
       body = h .behind;
-      text = text ∙ ap (λ x. binaryMagic ++ (lineText x ++ h .behind)) (head-counts (h .numbers) (h .passes));
+      text = first .0;
       rest = h .lines .rest;
       says = rows-say (top n) (kinds n) (h .behind) behind (h .on);
       closes = ends-closing newline _ (h .closed);

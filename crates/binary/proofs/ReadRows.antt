@@ -9,11 +9,11 @@ use Rattle.circuit.specs.declared.Counts.{Counts}
 use Rattle.circuit.specs.Refusal.{refusal}
 use Rattle.circuit.specs.RulesInCode.{Passed, Bounded}
 use Rattle.circuit.specs.Table.{top, tableLength, Kind, input, latch, literal, gate, kinds, width, rowTests, tableTests, circuitTests, literalTests, operandTests}
-use Rattle.circuit.proofs.Legality.{passed-bounded}
 use Rattle.text.specs.Line.{newline}
 use Rattle.text.specs.Outcome.{accepted}
-use Rattle.text.specs.Text.{words, lineTests, Lines, countsOf, headerTests, Content}
+use Rattle.text.specs.Text.{words, lineTests, Lines, countsOf, Content}
 use Rattle.text.proofs.Outcomes.{append-passed, accepted-same}
+use Rattle.text.proofs.Heads.{head-bounded}
 use Rattle.text.proofs.Steps.{header-accepted}
 use Rattle.text.proofs.Tables.{size, size-kinds, Due, Owned, owned-kinds, taken-refusal}
 use Rattle.text.proofs.Spelling.{length-words, drop-words, rules-words}
@@ -107,8 +107,8 @@ rows-circuit c ws b r =
     }
 
 pub binary-read : (t : List ℕ) {c : Content} → readBinary t ≡ accepted c → BinaryRead c
-unfolding readBinary headerTests
+unfolding readBinary
 binary-read t a =
     let h = header-accepted binaryMagic newline circuitRows t a in
     let n : Counts = countsOf (h .numbers) in
-    rw (← (h .gives)) (rows-circuit n (h .lines .words) (passed-bounded n (h .passes .1 .1)) (rows-read (top n) (kinds n) (h .behind) (owned-kinds n) (h .on)))
+    rw (← (h .gives)) (rows-circuit n (h .lines .words) (head-bounded (h .numbers) (h .passes)) (rows-read (top n) (kinds n) (h .behind) (owned-kinds n) (h .on)))

@@ -11,9 +11,10 @@ use Rattle.circuit.specs.Refusal.{refusal, leftBy as afterwards}
 use Rattle.circuit.specs.Table.{top, tableLength, kinds, circuitTests}
 use Rattle.text.specs.Line.{newline}
 use Rattle.text.specs.Outcome.{accepted}
-use Rattle.text.specs.Text.{writeRows, writeOpened, Content}
+use Rattle.text.specs.Text.{headNumbers, writeRows, writeOpened, Content}
 use Rattle.text.proofs.Outcomes.{accepted-same}
 use Rattle.text.proofs.Tables.{owned-kinds, Taken, taken, taken-refusal}
+use Rattle.text.proofs.Heads.{written-heads}
 use Rattle.text.proofs.Grammar.{Closing, done}
 use Rattle.text.proofs.Answers.{read-fits, reading-accepted, write-legal}
 use Rattle.binary.specs.Binary.{rowBytes, writeBinary, readBinary}
@@ -41,6 +42,8 @@ module _ (c : Counts) (table : List ℕ) (legal : 0 ≡ refusal (circuitTests c 
         short = short;
         legal = taken-refusal (record { bounded = k .bounded; long = omega (arith, length-ordered c table (k .long)); rules = ordered-rules c table k });
         whole = length-ordered c table (k .long);
+        head = headNumbers c;
+        heads = written-heads c;
         body = writeRows rowBytes (kinds c) table ++ tail;
         text = simp append-assoc;
         rest = tail;

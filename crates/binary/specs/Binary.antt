@@ -57,7 +57,7 @@ readGateRow own t = elim (readGate t) [
   | got d rest ↦ tested (gateTests own d) (accepted (record { words = operands own d; rest = rest }))
 ]
 
--- nothing for an input, a line for a latch or a lamp, two differences for a gate; `most` is the largest literal
+-- nothing for an input, a line for a latch or a literal, two differences for a gate; `most` is the largest literal
 unfoldable pub readRow : ℕ → Kind → List ℕ → Outcome Row
 readRow most (input own) t = accepted (record { words = []; rest = t })
 readRow most (latch own) t = readLineRow most (latch own) t

@@ -11,7 +11,7 @@ use Rattle.binary.specs.Binary.{readBinary, writeBinary}
 abbrev pub readBinaryInto : List ℕ → List ℕ → Outcome Content
 readBinaryInto text table = intoTable table (readBinary text)
 
--- The contract of the reader: its number, I, L, O and A, and the table at exit. A refusal changes no word; words beyond stay.
+-- The contract of the reader: its number, the counts, and the table at exit. A refusal changes no word; words beyond stay.
 abbrev pub BinaryReading : (text table : List ℕ) (number : ℕ) (counts : Counts) (table′ : List ℕ) → Type 0
 BinaryReading text table number counts table′ = ReadBy (readBinaryInto text table) table number counts table′
 

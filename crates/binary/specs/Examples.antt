@@ -5,11 +5,11 @@ use Prim.Native.Nat.{ℕ}
 use Prim.Native.String.{String}
 use lib.ListN.{replicate}
 use Rattle.circuit.specs.Refusal.{refusal}
-use Rattle.circuit.specs.Table.{ceilingTests, several, kinds, width, rowTests, literalTests, operandTests}
+use Rattle.circuit.specs.Table.{plainCounts, ceilingTests, several, kinds, width, rowTests, literalTests, operandTests}
 use Rattle.text.specs.Decimal.{digits, decimal, isDigit, mayGrow, readOn, readNumber}
 use Rattle.text.specs.Line.{endedLine, strip, prepend, splitLine}
 use Rattle.text.specs.Outcome.{Outcome, accepted, refused, tested, further, onward}
-use Rattle.text.specs.Text.{writeRows, writeOpened, headNumbers, shown, fits, owns, resetWord, words, lineTests, ends, firstLine, countsOf, headerTests, Content, readOpened}
+use Rattle.text.specs.Text.{writeRows, writeOpened, furtherNumbers, headNumbers, shown, fits, owns, resetWord, words, lineTests, ends, firstLine, countsOf, countTests, headerTests, Content, readOpened}
 use Rattle.text.specs.Calls.{intoTable}
 use Rattle.text.specs.Bench.{bytes}
 use Rattle.binary.specs.Difference.{groupsOf, groups, lastGroup, readSecond, readDifference}
@@ -32,8 +32,12 @@ abbrev pub refuses : String → List ℕ → ℕ → Case
 refuses t g n = record { lines = t; gates = g; outcome = refused n }
 
 -- what a circuit of these counts and words is
+abbrev pub constrained : ℕ → ℕ → ℕ → ℕ → ℕ → ℕ → List ℕ → Content
+constrained i l o a b c ws = record { counts = record { inputs = i; latches = l; lamps = o; gates = a; bads = b; constraints = c }; words = ws }
+
+-- the same without bad states and constraints
 abbrev pub circuit : ℕ → ℕ → ℕ → ℕ → List ℕ → Content
-circuit i l o a ws = record { counts = record { inputs = i; latches = l; lamps = o; gates = a }; words = ws }
+circuit i l o a ws = record { counts = plainCounts i l o a; words = ws }
 
 -- `says t g c`: read as c
 abbrev pub says : String → List ℕ → Content → Case
@@ -41,11 +45,11 @@ says t g c = record { lines = t; gates = g; outcome = accepted c }
 
 -- readBinary and writeBinary, all of them open to computation
 unfoldable pub outcomeOf : List ℕ → Outcome Content
-unfolding refusal ceilingTests several kinds rowTests literalTests operandTests isDigit mayGrow readOn readNumber strip prepend splitLine tested further onward fits owns resetWord words lineTests ends firstLine countsOf headerTests readOpened lastGroup readSecond readDifference readGate gateTests operands owned readLineRow readGateRow readRow then readRows readBinary
+unfolding refusal ceilingTests several kinds rowTests literalTests operandTests isDigit mayGrow readOn readNumber strip prepend splitLine tested further onward fits owns resetWord words lineTests ends firstLine countsOf countTests headerTests readOpened lastGroup readSecond readDifference readGate gateTests operands owned readLineRow readGateRow readRow then readRows readBinary
 outcomeOf t = readBinary t
 
 unfoldable pub written : Content → List ℕ
-unfolding several kinds width headNumbers shown endedLine decimal digits groupsOf groups differences gateBytes rowBytes writeRows writeOpened
+unfolding several kinds width headNumbers furtherNumbers shown endedLine decimal digits groupsOf groups differences gateBytes rowBytes writeRows writeOpened
 written c = writeBinary (c .counts) (c .words)
 
 -- S and C
@@ -77,6 +81,14 @@ pub larger-first : written (circuit 0 2 1 1 (4 ∷ 0 ∷ 2 ∷ 1 ∷ 6 ∷ 2 ∷
 unfolding written S
 larger-first = refl
 
+-- B and C stand in the first line only up to the last that is not 0; lamps, bad states, constraints, gates
+pub counts-shown :
+    (written (constrained 1 0 1 1 1 1 (2 ∷ 3 ∷ 5 ∷ 3 ∷ 2 ∷ [])) ≡ bytes "aig 2 1 0 1 1 1 1/2/3/5/" ++ (1 ∷ 1 ∷ []))
+    × (written (constrained 1 0 1 0 1 0 (2 ∷ 3 ∷ [])) ≡ bytes "aig 1 1 0 1 0 1/2/3/")
+    × (written (constrained 1 0 1 0 0 1 (2 ∷ 3 ∷ [])) ≡ bytes "aig 1 1 0 1 0 0 1/2/3/")
+unfolding written bytes
+counts-shown = (refl, refl, refl)
+
 pub edges : List Case
 edges =
     refuses "" [] 2
@@ -86,6 +98,18 @@ edges =
     ∷ refuses "aig 0 0 0 0/" [] 2
     ∷ refuses "aig 257 257 0 0 0/" [] 3
     ∷ refuses "aig 2 1 0 0 0/" [] 3
+    -- up to nine numbers; J and F are 0, B and C at most 64
+    ∷ refuses "aig 0 0 0 0 0 0 0 0 0 0/" [] 2
+    ∷ refuses "aig 0 0 0 0 0 0 0 1/" [] 3
+    ∷ refuses "aig 0 0 0 0 0 0 0 0 1/" [] 3
+    ∷ refuses "aig 0 0 0 0 0 65/" [] 3
+    ∷ refuses "aig 0 0 0 0 0 0 65/" [] 3
+    ∷ refuses "aig 0 0 0 0 0 1/" [] 4
+    ∷ refuses "aig 0 0 0 0 0 0 1/2/" [] 6
+    ∷ says "aig 1 1 0 0 0 1/3/" [] (constrained 1 0 0 0 1 0 (3 ∷ []))
+    ∷ says "aig 1 1 0 0 0 0 1/3/" [] (constrained 1 0 0 0 0 1 (3 ∷ []))
+    ∷ says "aig 1 1 0 1 0 1 1 0/2/3/1/" [] (constrained 1 0 1 0 1 1 (2 ∷ 3 ∷ 1 ∷ []))
+    ∷ says "aig 2 1 0 1 1 1 1 0 0/2/3/5/" (1 ∷ 1 ∷ []) (constrained 1 0 1 1 1 1 (2 ∷ 3 ∷ 5 ∷ 3 ∷ 2 ∷ []))
     ∷ refuses "aig 1 0 1 0 0/" [] 4
     ∷ refuses "aig 1 0 1 0 0/3 0 0/" [] 4
     ∷ refuses "aig 1 0 1 0 0/3 0/9" [] 9
@@ -136,7 +160,7 @@ longest-text = refl
 
 -- a lent table without a word is too short for a lamp, and 9 comes before 10
 pub short-table : map (λ (t : String). readBinaryInto (bytes t) []) ("aig 0 0 0 1 0/0/" ∷ "aig 0 0 0 1 0/0/x" ∷ []) ≡ refused 10 ∷ refused 9 ∷ []
-unfolding outcomeOf bytes intoTable
+unfolding outcomeOf bytes intoTable countTests
 short-table = refl
 
 -- one group up to 127, two up to 16,383

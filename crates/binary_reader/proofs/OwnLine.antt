@@ -1,4 +1,4 @@
--- A line's numbers with the own literal in front, and a latch line or lamp line so completed. Assumes nothing.
+-- A line's numbers with the own literal in front, and a line of the body so completed. Assumes nothing.
 use mathlib.Core.Path.{_≡_, refl, sym, _∙_, ap}
 use mathlib.Core.List.{List, _∷_}
 use Prim.Native.Nat.{ℕ, zero, suc, _+_, _-_, _≤_}

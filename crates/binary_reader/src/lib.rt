@@ -190,7 +190,7 @@ fn judge_line(text: &[u8], at: usize, kind: u8, own: usize, most: usize) -> Judg
     }
 }
 
-// Latch lines or lamp lines, the first with the literal `own`.
+// Latch lines or lines of one literal, the first with the literal `own`.
 fn judge_lines(text: &[u8], at: usize, kind: u8, own: usize, count: usize, most: usize) -> Judged
     requires { ⌜ (at ≤ length (now text)) × (1 ≤ kind) × (kind ≤ 2) × (own + 2 * count ≤ 10000) ⌝ }
     ensures { λ r. ⌜ LinesJudged (readRows most) (now (text .entry)) at (several (coded kind) own count) r ⌝ }
@@ -209,7 +209,7 @@ fn judge_lines(text: &[u8], at: usize, kind: u8, own: usize, count: usize, most:
     }
 }
 
-// No input lines; a line for each latch and lamp, then the gates.
+// No input lines; a line for each latch, lamp, bad state and constraint, then the gates.
 fn judge_rows(text: &[u8], at: usize, counts: Counts) -> Judged
     requires { ⌜ Bounded counts × (at ≤ length (now text)) ⌝ }
     ensures { λ r. ⌜ LinesJudged (readRows (top counts)) (now (text .entry)) at (kindsThen counts) r ⌝ }
@@ -261,7 +261,7 @@ fn judge(text: &[u8]) -> Judgement
 
 // ---- the second pass
 
-// Latch lines or lamp lines, the first with the literal `own`; the place behind them.
+// Latch lines or lines of one literal, the first with the literal `own`; the place behind them.
 fn fill_lines(
     text: &[u8],
     start: Place,

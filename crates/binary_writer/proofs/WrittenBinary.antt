@@ -1,4 +1,4 @@
--- What is written is its first line, then a block for the latches, the lamps and the gates; and what a legal table gives for it. Assumes nothing.
+-- What is written is its first line, then a block for the latches, the lines of one literal and the gates; and what a legal table gives for it. Assumes nothing.
 use mathlib.Core.Path.{_≡_, refl, sym}
 use mathlib.Core.List.{List, [], _++_}
 use Prim.Native.Nat.{ℕ, zero, suc, _+_, _*_}

@@ -115,7 +115,7 @@ fn latch_row(own: usize, next: usize, reset: usize) -> LineNumbers
     }
 }
 
-// The line of a latch or a lamp whose words stand at word `at`.
+// The line of a latch or of one literal whose words stand at word `at`.
 fn row_line(kind: u8, own: usize, table: &[u16], at: usize) -> LineNumbers
     requires { ⌜ (1 ≤ kind) × (kind ≤ 2) × (own < 10000) × (at + width (coded kind own) ≤ length (now table)) × SmallWords (now table) (at + width (coded kind own)) ⌝ }
     ensures { λ r. ⌜ Shows rowBytes kind own (now (table .entry)) at r ⌝ }
@@ -134,7 +134,7 @@ fn row_line(kind: u8, own: usize, table: &[u16], at: usize) -> LineNumbers
     latch_row(own, first, reset)
 }
 
-// Latch lines or lamp lines, the first with the literal `own` and its words at word `at`.
+// Latch lines or lines of one literal, the first with the literal `own` and its words at word `at`.
 fn put_lines(
     text: &mut [u8],
     start: usize,
@@ -159,7 +159,7 @@ fn put_lines(
     end
 }
 
-// `aig` and a space, then M I L O A and a newline.
+// `aig` and a space, then the counts and a newline.
 fn put_header(text: &mut [u8], counts: Counts) -> usize
     requires { ⌜ Bounded counts × (length (binaryMagic ++ lineText (headNumbers counts)) ≤ length (now text)) ⌝ }
     ensures { λ r. ⌜ Put (now (text .entry)) 0 (binaryMagic ++ lineText (headNumbers counts)) (now (text .exit)) r ⌝ }
@@ -168,7 +168,7 @@ fn put_header(text: &mut [u8], counts: Counts) -> usize
     writer::put_first_line(text, &magic, counts)
 }
 
-// Then a line for each latch and lamp, and two differences for each gate; nothing for an input.
+// Then a line for each latch, lamp, bad state and constraint, and two differences for each gate; nothing for an input.
 fn put_binary(text: &mut [u8], counts: Counts, table: &[u16]) -> usize
     requires { ⌜ BinaryWritable counts (now table) (length (now text)) ⌝ }
     ensures { λ r. ⌜ Put (now (text .entry)) 0 (writeBinary counts (now (table .entry))) (now (text .exit)) r ⌝ }

@@ -11,7 +11,7 @@ use Rattle.circuit.specs.Table.{literalsAt, gatesAt, literals}
 use Rattle.circuit.specs.declared.Counts.{Counts}
 use Rattle.pass.specs.ValuesInCode.{Readable}
 use Rattle.circuit.proofs.Rules.{and-fails, and-holds}
-use Rattle.drawn.specs.Drawing.{Drawing, lamp, left, right, defined, allDefined}
+use Rattle.drawn.specs.Drawing.{Drawing, single, left, right, defined, allDefined}
 use Rattle.defined.specs.Places.{Spoken}
 
 -- ---- the literals are in the words

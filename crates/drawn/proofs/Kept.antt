@@ -16,7 +16,7 @@ use Rattle.drawn.specs.Drawing.{Drawing, leaves, lines, own, leftSource,
 use Rattle.drawn.proofs.Proper.{Proper}
 use Rattle.drawn.proofs.Sorting.{Before}
 use Rattle.drawn.proofs.Naming.{gates-sorted, gate-small, line-leaf, line-gate, name-line, name-zero}
-use Rattle.drawn.proofs.Tables.{table-length, table-next, table-reset, table-lamp, table-left, table-right}
+use Rattle.drawn.proofs.Tables.{table-length, table-next, table-reset, table-single, table-left, table-right}
 
 -- two lists of one length with the same entries
 same-entries : (xs ys : List ℕ) → length xs ≡ length ys → ((k : ℕ) → k < length xs → getD xs k 0 ≡ getD ys k 0) → xs ≡ ys
@@ -88,7 +88,7 @@ module _ (d : Drawing) (p : Proper d) where
             go : Dec (k < literalsAt (d .counts)) → Dec (k < gatesAt (d .counts)) → Dec (k % 2 ≡ 0) → Dec ((k - gatesAt (d .counts)) % 2 ≡ 0) → getD (table d) k 0 ≡ getD (d .words) k 0
             go (yes a) b (yes e) f = there {i = 2 * (k / 2)} (omega arith) (table-next d (k / 2) (omega arith) ∙ rename-kept _ (l .next (k / 2) (omega arith)))
             go (yes a) b (no e) f = there {i = 2 * (k / 2) + 1} (omega arith) (table-reset d (k / 2) (omega arith))
-            go (no a) (yes b) e f = there {i = literalsAt (d .counts) + (k - literalsAt (d .counts))} (omega arith) (table-lamp d (k - literalsAt (d .counts)) (omega arith) ∙ rename-kept _ (l .literal (k - literalsAt (d .counts)) (omega arith)))
+            go (no a) (yes b) e f = there {i = literalsAt (d .counts) + (k - literalsAt (d .counts))} (omega arith) (table-single d (k - literalsAt (d .counts)) (omega arith) ∙ rename-kept _ (l .literal (k - literalsAt (d .counts)) (omega arith)))
             go (no a) (no b) e (yes f) =
                 let g = (k - gatesAt (d .counts)) / 2 in
                 let h′ : g < d .counts .gates = omega arith in

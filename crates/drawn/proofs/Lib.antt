@@ -3,8 +3,10 @@ pub mod Picking
 pub mod Sorting
 pub mod Proper
 pub mod Naming
+pub mod Pairs
 pub mod Tables
 pub mod Same
+pub mod Ticks
 pub mod Refused
 pub mod Reading
 pub mod Sound

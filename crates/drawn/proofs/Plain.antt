@@ -16,12 +16,13 @@ use Rattle.circuit.specs.declared.Counts.{Counts}
 use Rattle.circuit.specs.Table.{variables, top, ceilingTests, tableLength, Kind, input, latch, literal, gate, kinds, rowTests, literalTests, operandTests}
 use Rattle.circuit.proofs.Refusals.{passed-refusal}
 use Rattle.text.specs.Outcome.{accepted, onward}
-use Rattle.text.specs.Text.{magic, fits, owns, words, shownOwn, lineTests, Lines, readLines, header, countsOf, headerTests, Content, endingOf, readText}
+use Rattle.text.specs.Text.{magic, fits, owns, words, shownOwn, lineTests, Lines, readLines, header, countsOf, countTests, headerTests, Content, endingOf, readText}
 use Rattle.text.proofs.Outcomes.{append-passed, accepted-same}
+use Rattle.text.proofs.Heads.{head-passed, head-bounded}
 use Rattle.text.proofs.Steps.{line-fits, line-accepted, line-numbered, header-accepted}
 use Rattle.text.proofs.Endings.{describes}
 use Rattle.drawn.specs.Depth.{deep, loopless}
-use Rattle.drawn.specs.Drawing.{Drawing, leaves, lines, own, nextLiteral, lamp as lampLiteral, left, right, leftSource, rightSource, drawingTests}
+use Rattle.drawn.specs.Drawing.{Drawing, leaves, lines, own, nextLiteral, single, left, right, leftSource, rightSource, drawingTests}
 use Rattle.drawn.specs.Meaning.{Uses, Leads, uses, through}
 use Rattle.drawn.specs.Lines.{anyTests, anyHeaderTests, drawing, afterTests, readAny}
 use Rattle.drawn.proofs.Proper.{Defined, constant, line, Owned, Proper, proper-passed}
@@ -93,7 +94,7 @@ module _ (d : Drawing) (most : d .most ≡ lines d) (due : (k : ℕ) → k < lin
   due-proper = record {
     owned = due-owned;
     next = λ i h. due-defined (nextLiteral d i) (l .next i h);
-    lamps = λ i h. due-defined (lampLiteral d i) (l .literal i h);
+    singles = λ i h. due-defined (single d i) (l .literal i h);
     lefts = λ i h. due-defined (left d i) (omega (arith, l .left i h));
     rights = λ i h. due-defined (right d i) (omega (arith, l .right i h));
     shallow = λ i h. shallow i h;
@@ -106,10 +107,11 @@ module _ (d : Drawing) (most : d .most ≡ lines d) (due : (k : ℕ) → k < lin
 -- ---- the text
 
 plain-header : (ns : List ℕ) → Passed (headerTests ns) → Passed (anyHeaderTests ns)
-unfolding headerTests anyHeaderTests ceilingTests
+unfolding anyHeaderTests
 plain-header ns p =
-    let e = eqb-true (getD ns 0 0) (variables (countsOf ns)) (p .1 .0) in
-    (p .0, (le-leb (getD ns 0 0) 4095 (omega (arith, e, leb-true)), (le-leb (variables (countsOf ns)) (getD ns 0 0) (omega (arith, e)), p .1 .1)))
+    let q = head-passed ns p in
+    let e : getD ns 0 0 ≡ variables (countsOf ns) = q .1 in
+    append-passed (countTests ns) _ (q .0) (le-leb (getD ns 0 0) 4095 (omega (arith, e, head-bounded ns p)), (le-leb (variables (countsOf ns)) (getD ns 0 0) (omega (arith, e)), tt))
 
 same-legal : {c c′ : Counts} {ws ws′ : List ℕ} → c ≡ c′ → ws ≡ ws′ → Legal c′ ws′ → Legal c ws
 same-legal e f l = rw (e, f) l
@@ -127,11 +129,11 @@ pub record PlainDrawing (t : List ℕ) (c : Content) : Type 0 where
   pub proper : Proper drawn
 
 pub plain-accepted : (t : List ℕ) {c : Content} → readText t ≡ accepted c → PlainDrawing t c
-unfolding readText readAny headerTests afterTests
+unfolding readText readAny afterTests
 plain-accepted t {c} a =
     let h = header-accepted magic (endingOf t) _ t a in
     let n : Counts = countsOf (h .numbers) in
-    let e : getD (h .numbers) 0 0 ≡ variables n = eqb-true (getD (h .numbers) 0 0) (variables n) (h .passes .1 .0) in
+    let e : getD (h .numbers) 0 0 ≡ variables n = head-passed (h .numbers) (h .passes) .1 in
     let b = plain-lines (endingOf t) (top n) (kinds n) (h .behind) (h .on) in
     let d : Drawing = drawing (getD (h .numbers) 0 0) n (h .lines) in
     let counts-same : n ≡ c .counts = ap (λ (c : Content). c .counts) (h .gives) in

@@ -13,7 +13,7 @@ use Rattle.text.specs.OutcomeInCode.{after}
 use Rattle.circuit.specs.RulesInCode.{Passed, Legal}
 use Rattle.circuit.specs.Refusal.{Test, _or_, refusal}
 use Rattle.circuit.specs.declared.Counts.{Counts}
-use Rattle.circuit.specs.Circuit.{next, lamps, Latch, Circuit}
+use Rattle.circuit.specs.Circuit.{next, Latch, Circuit}
 use Rattle.circuit.specs.Table.{circuitOf}
 use Rattle.three.specs.Value.{boolean}
 use Rattle.circuit.proofs.Refusals.{Numbered, stops, past, none, passes, refusal-append, append-past}
@@ -22,15 +22,15 @@ use Rattle.text.specs.Text.{ends, Lines, Content, readText}
 use Rattle.text.proofs.Outcomes.{refused-accepted, tested-stops}
 use Rattle.drawn.specs.Depth.{Source, gate, depth, deep}
 use Rattle.drawn.specs.Drawing.{Drawing, lines, leftSource, rightSource, gateOrder, once, allDefined, drawingTests, table, reset, renumbered}
-use Rattle.drawn.specs.Meaning.{Behaves, Follows, Looped}
+use Rattle.drawn.specs.Meaning.{Shown, shownBy, Behaves, Follows, Looped}
 use Rattle.drawn.specs.Lines.{bodyOf, drawing, afterTests, readDrawing, readAny}
 use Rattle.drawn.proofs.Loops.{depth-gate}
 use Rattle.drawn.proofs.Sorting.{Sorted}
 use Rattle.drawn.proofs.Naming.{gates-sorted}
-use Rattle.drawn.proofs.Same.{behaviour}
+use Rattle.drawn.proofs.Ticks.{behaviour}
 use Rattle.drawn.proofs.Refused.{gives-22}
 use Rattle.drawn.proofs.Plain.{PlainDrawing, plain-accepted}
-use Rattle.drawn.proofs.Twins.{next-twins, lamps-twins}
+use Rattle.drawn.proofs.Twins.{next-twins, shown-twins}
 use Rattle.drawn.proofs.Reading.{drawing-lines}
 use Rattle.drawn.proofs.Tables.{drawnCircuit, table-circuit}
 use Rattle.drawn.proofs.Kept.{table-kept, list-kept}
@@ -42,10 +42,10 @@ module _ (t : List ℕ) (d : Drawing) (a : readAny t ≡ accepted d) where
   pub legal : Legal (d .counts) (table d)
   legal = accepted-legal t a
 
-  -- for every sequence of switch settings the states and lamps of the text are those of the table, tick by tick
-  pub same-behaviour : (switches states lights : ℕ → List Bool) → ((t : ℕ) → length (switches t) ≡ d .counts .inputs) → length (states 0) ≡ d .counts .latches
-      → Behaves d switches states lights ↔ Follows d switches states lights
-  same-behaviour switches states lights set begins = behaviour d (accepted-sound t a .proper) switches states lights set begins
+  -- for every sequence of switch settings the states, lamps, bad states and constraints of the text are those of the table, tick by tick
+  pub same-behaviour : (switches states : ℕ → List Bool) (shows : ℕ → Shown) → ((t : ℕ) → length (switches t) ≡ d .counts .inputs) → length (states 0) ≡ d .counts .latches
+      → Behaves d switches states shows ↔ Follows d switches states shows
+  same-behaviour switches states shows set begins = behaviour d (accepted-sound t a .proper) switches states shows set begins
 
   -- all gates, each once, by depth and then in file order
   pub by-depth : Sorted (d .counts .gates) (deep (leftSource d) (rightSource d) (d .counts .gates)) (gateOrder d)
@@ -67,19 +67,19 @@ same-resets d = ap (λ (c : Circuit). map (λ (l : Latch). l .reset) (c .latches
 pub accepts-plain : (t : List ℕ) {c : Content} → readText t ≡ accepted c → PlainDrawing t c
 accepts-plain t a = plain-accepted t a
 
--- under any switches and in any state both tables have the same next state and lamps
+-- under any switches and in any state both tables have the same next state and show the same
 module _ (t : List ℕ) (c : Content) (p : PlainDrawing t c) (r s : List Bool) where
   pub plain-twins : length r ≡ c .counts .inputs → length s ≡ c .counts .latches
       → (next boolean (circuitOf (c .counts) (table (p .drawn))) r s ≡ next boolean (circuitOf (c .counts) (c .words)) r s)
-      × (lamps boolean (circuitOf (c .counts) (table (p .drawn))) r s ≡ lamps boolean (circuitOf (c .counts) (c .words)) r s)
+      × (shownBy (circuitOf (c .counts) (table (p .drawn))) r s ≡ shownBy (circuitOf (c .counts) (c .words)) r s)
   plain-twins i l = moved (p .counts-same) (p .words-same) (
     next-twins (p .drawn) (p .proper) (p .due) (p .lawful) r s (rw (p .counts-same) i) (rw (p .counts-same) l),
-    lamps-twins (p .drawn) (p .proper) (p .due) (p .lawful) r s (rw (p .counts-same) i) (rw (p .counts-same) l),
+    shown-twins (p .drawn) (p .proper) (p .due) (p .lawful) r s (rw (p .counts-same) i) (rw (p .counts-same) l),
   )
     where
       moved : {n n′ : Counts} {ws ws′ : List ℕ} → n ≡ n′ → ws ≡ ws′
-          → (next boolean (circuitOf n (table (p .drawn))) r s ≡ next boolean (circuitOf n ws) r s) × (lamps boolean (circuitOf n (table (p .drawn))) r s ≡ lamps boolean (circuitOf n ws) r s)
-          → (next boolean (circuitOf n′ (table (p .drawn))) r s ≡ next boolean (circuitOf n′ ws′) r s) × (lamps boolean (circuitOf n′ (table (p .drawn))) r s ≡ lamps boolean (circuitOf n′ ws′) r s)
+          → (next boolean (circuitOf n (table (p .drawn))) r s ≡ next boolean (circuitOf n ws) r s) × (shownBy (circuitOf n (table (p .drawn))) r s ≡ shownBy (circuitOf n ws) r s)
+          → (next boolean (circuitOf n′ (table (p .drawn))) r s ≡ next boolean (circuitOf n′ ws′) r s) × (shownBy (circuitOf n′ (table (p .drawn))) r s ≡ shownBy (circuitOf n′ ws′) r s)
       moved e f q = rw (← e, ← f) q
 
 -- where its gates stand by depth already, the table is the plain one, and every variable keeps its number

@@ -9,8 +9,9 @@ use Rattle.three.specs.Lists.{every, first}
 use Rattle.three.proofs.First.{first-finds, first-holds, first-only}
 use Rattle.three.proofs.Lists.{by-test, and-parts, every-at, every-all}
 use Rattle.drawn.specs.Depth.{Source, leaf, gate, deep, loopless}
-use Rattle.drawn.specs.Drawing.{Drawing, leaves, lines, own, nextLiteral, lamp, left, right, gateOf, source, leftSource, rightSource, once, defined, allDefined, drawingTests}
+use Rattle.drawn.specs.Drawing.{Drawing, leaves, lines, own, nextLiteral, single, left, right, gateOf, source, leftSource, rightSource, once, defined, allDefined, drawingTests}
 use Rattle.circuit.specs.RulesInCode.{Passed}
+use Rattle.circuit.specs.Table.{literals}
 
 module _ (d : Drawing) where
   -- A literal's variable is 0 or some line's
@@ -29,7 +30,7 @@ module _ (d : Drawing) where
   pub record Proper : Type 0 where
     pub owned : Owned
     pub next : (i : ℕ) → i < d .counts .latches → Defined (nextLiteral d i)
-    pub lamps : (i : ℕ) → i < d .counts .lamps → Defined (lamp d i)
+    pub singles : (i : ℕ) → i < literals (d .counts) → Defined (single d i)
     pub lefts : (i : ℕ) → i < d .counts .gates → Defined (left d i)
     pub rights : (i : ℕ) → i < d .counts .gates → Defined (right d i)
     pub shallow : (i : ℕ) → i < d .counts .gates → deep (leftSource d) (rightSource d) (d .counts .gates) i ≤ d .counts .gates
@@ -93,12 +94,12 @@ module _ (d : Drawing) where
   unfolding drawingTests allDefined loopless
   proper p =
       let a = and-parts (every (d .counts .latches) (λ i. defined d (nextLiteral d i))) _ (p .1 .0) in
-      let b = and-parts (every (d .counts .lamps) (λ i. defined d (lamp d i))) _ (a .1) in
+      let b = and-parts (every (literals (d .counts)) (λ i. defined d (single d i))) _ (a .1) in
       let c = and-parts (every (d .counts .gates) (λ i. defined d (left d i))) (every (d .counts .gates) (λ i. defined d (right d i))) (b .1) in
       record {
         owned = owned-holds (p .0);
         next = λ i h. defined-holds (nextLiteral d i) (every-at (d .counts .latches) (λ i. defined d (nextLiteral d i)) (a .0) i h);
-        lamps = λ i h. defined-holds (lamp d i) (every-at (d .counts .lamps) (λ i. defined d (lamp d i)) (b .0) i h);
+        singles = λ i h. defined-holds (single d i) (every-at (literals (d .counts)) (λ i. defined d (single d i)) (b .0) i h);
         lefts = λ i h. defined-holds (left d i) (every-at (d .counts .gates) (λ i. defined d (left d i)) (c .0) i h);
         rights = λ i h. defined-holds (right d i) (every-at (d .counts .gates) (λ i. defined d (right d i)) (c .1) i h);
         shallow = λ i h. leb-true (deep (leftSource d) (rightSource d) (d .counts .gates) i) (d .counts .gates)
@@ -112,7 +113,7 @@ module _ (d : Drawing) where
     (
       rw (
         every-all (d .counts .latches) (λ i. defined d (nextLiteral d i)) (λ i h. holds-defined (nextLiteral d i) (p .next i h)),
-        every-all (d .counts .lamps) (λ i. defined d (lamp d i)) (λ i h. holds-defined (lamp d i) (p .lamps i h)),
+        every-all (literals (d .counts)) (λ i. defined d (single d i)) (λ i h. holds-defined (single d i) (p .singles i h)),
         every-all (d .counts .gates) (λ i. defined d (left d i)) (λ i h. holds-defined (left d i) (p .lefts i h)),
         every-all (d .counts .gates) (λ i. defined d (right d i)) (λ i h. holds-defined (right d i) (p .rights i h)),
       ),

@@ -3,19 +3,20 @@ use mathlib.Core.Path.{_≡_, ap, _∙_}
 use mathlib.Core.List.{List, [], _∷_, _++_}
 use Prim.Native.Nat.{ℕ, zero, suc, _+_, _≤_, _<_}
 use native.Mathlib.Omega.{arith}
-use borrow.Author.Tests.{le-leb}
+use borrow.Author.Tests.{le-leb, leb-true}
 use lib.Dec.{leb}
 use lib.ListN.{length, getD}
-use Rattle.circuit.specs.RulesInCode.{Passed}
+use Rattle.circuit.specs.RulesInCode.{Passed, Bounded}
 use Rattle.circuit.specs.declared.Counts.{Counts}
 use Rattle.circuit.specs.Refusal.{Test, _or_}
-use Rattle.circuit.specs.Table.{ceilingTests, Kind, input, latch, literal, gate, literalTests}
-use Rattle.circuit.proofs.Refusals.{Numbered, past, none, passed-refusal}
+use Rattle.circuit.specs.Table.{variables, ceilingTests, Kind, input, latch, literal, gate, literalTests}
+use Rattle.circuit.proofs.Refusals.{Numbered, past, none, passed-append, passed-refusal}
 use Rattle.text.specs.Part.{got}
 use Rattle.text.specs.Outcome.{accepted, tested, further, onward}
-use Rattle.text.specs.Text.{words, Lines, readLines, header, countsOf}
+use Rattle.text.specs.Text.{words, Lines, readLines, header, countsOf, countTests}
 use Rattle.text.proofs.Parts.{by-part}
 use Rattle.text.proofs.Outcomes.{accepted-same, tested-past, refused-accepted, tested-accepted, further-accepted, onward-accepted}
+use Rattle.text.proofs.Heads.{counts-passed}
 use Rattle.text.proofs.Steps.{line-accepted}
 use Rattle.drawn.specs.Drawing.{Drawing, drawingTests}
 use Rattle.text.proofs.Spelling.{words-below}
@@ -79,7 +80,7 @@ pub record TextRead (ending t : List ℕ) (d : Drawing) : Type 0 where
   pub on : readDrawing ending (getD numbers 0 0) (countsOf numbers) rest ≡ accepted d
 
 pub text-accepted : (ending t : List ℕ) {d : Drawing} → readAnyEnded ending t ≡ accepted d → TextRead ending t d
-unfolding readAnyEnded anyHeaderTests ceilingTests
+unfolding readAnyEnded anyHeaderTests countTests ceilingTests
 text-accepted ending t a =
     let s = tested-accepted (leb (length t) 60000 or 1 ∷ []) _ (omega arith) a in
     by-part (header ending t)
@@ -94,3 +95,10 @@ unfolding readAnyEnded
 text-fits ending t {ns} short e p =
     tested-past _ _ (past _ [] (le-leb (length t) 60000 short) none)
     ∙ rw e (tested-past (anyHeaderTests ns) _ (passed-refusal _ p))
+
+-- what 2 and 3 leave of a first line
+pub any-header : (ns : List ℕ) → Passed (anyHeaderTests ns) → Bounded (countsOf ns) × (getD ns 0 0 ≤ 4095) × (variables (countsOf ns) ≤ getD ns 0 0)
+unfolding anyHeaderTests
+any-header ns p =
+    let q = passed-append (countTests ns) _ p in
+    (counts-passed ns (q .0) .3, leb-true (getD ns 0 0) 4095 (q .1 .0), leb-true (variables (countsOf ns)) (getD ns 0 0) (q .1 .1 .0))

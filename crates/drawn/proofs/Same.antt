@@ -1,8 +1,7 @@
--- The table behaves as the text does: its entries are the one solution of the text's lines. Assumes nothing.
+-- The entries of the table are the one solution of the text's lines, and so it has the text's next state, lamps, bad states and constraints. Assumes nothing.
 use mathlib.Core.Path.{_≡_, refl, sym, ap, ap₂, _∙_}
 use mathlib.Core.Bool.{Bool, false, _&&_}
 use mathlib.Core.List.{List, _∷_, _++_, map}
-use mathlib.Core.Logic.{_↔_}
 use Prim.Native.Nat.{ℕ, zero, suc, _+_, _*_, _-_, _/_, _%_, _<_, _≤_}
 use native.Mathlib.Nat.{not-suc-le-zero}
 use native.Mathlib.Omega.{arith}
@@ -11,16 +10,18 @@ use lib.ListN.{length, getD, length-append, List·getD-append}
 use Rattle.three.specs.Lists.{tabulate}
 use Rattle.three.specs.Value.{boolean}
 use Rattle.three.proofs.Lists.{length-tabulate, getD-tabulate, map-tabulate, tabulate-ext}
-use Rattle.circuit.specs.Circuit.{Circuit, Latch, Gate, signed, value, pass, readings, settle, next, lamps}
-use Rattle.circuit.proofs.Pass.{next-sized}
-use Rattle.circuit.specs.Table.{circuitOf}
-use Rattle.drawn.specs.Drawing.{Drawing, leaves, lines, own, nextLiteral, lamp, left, right, gateAt, lineAt, name, rename, table}
-use Rattle.drawn.specs.Meaning.{literal, Solves, nextUnder, lampsUnder, Does, Behaves, Follows}
+use Rattle.circuit.specs.Circuit.{Circuit, Latch, Gate, signed, value, pass, readings, settle, next}
+use Rattle.circuit.specs.Table.{circuitOf, literals, verdicts}
+use Rattle.drawn.specs.Drawing.{Drawing, leaves, lines, own, nextLiteral, single, left, right, gateAt, lineAt, name, rename, table}
+use Rattle.drawn.specs.Meaning.{literal, Solves, nextUnder, Shown, shownBy, singlesUnder, shownUnder}
 use Rattle.drawn.proofs.Proper.{Defined, Proper}
 use Rattle.drawn.proofs.Naming.{gates-sorted, gate-small, line-leaf, line-gate, Numbered, ofLeaf, ofGate, numbered, name-line, name-zero, old, named, left-named, right-named}
 use Rattle.circuit.proofs.Fixed.{Falling, falling, entry-front, pass-at}
-use Rattle.drawn.proofs.Tables.{drawnCircuit, table-circuit}
+use Rattle.drawn.proofs.Tables.{renamedSingles, drawnCircuit, table-circuit}
 use Rattle.drawn.proofs.Picking.{getD-behind}
+
+pub same-shown : {a a′ b b′ c c′ : List Bool} → a ≡ a′ → b ≡ b′ → c ≡ c′ → _≡_ {A = Shown} (record { lamps = a; bads = b; constraints = c }) (record { lamps = a′; bads = b′; constraints = c′ })
+same-shown p q r = cc
 
 module _ (d : Drawing) (p : Proper d) (r s : List Bool) (inputs-long : length r ≡ d .counts .inputs) (latches-long : length s ≡ d .counts .latches) where
   abbrev gateList : List Gate
@@ -123,12 +124,16 @@ module _ (d : Drawing) (p : Proper d) (r s : List Bool) (inputs-long : length r 
         ∙ map-tabulate (value boolean values) (d .counts .latches) _
         ∙ tabulate-ext (d .counts .latches) _ _ (λ i h. literal-same (nextLiteral d i) (p .next i h))
 
-    pub lamps-same : lamps boolean (circuitOf (d .counts) (table d)) r s ≡ lampsUnder d v
-    unfolding readings settle drawnCircuit lampsUnder boolean
-    lamps-same =
-        ap (λ (c : Circuit). lamps boolean c r s) (table-circuit d)
-        ∙ map-tabulate (value boolean values) (d .counts .lamps) _
-        ∙ tabulate-ext (d .counts .lamps) _ _ (λ i h. literal-same (lamp d i) (p .lamps i h))
+    singles-same : (k n : ℕ) → k + n ≤ literals (d .counts) → readings boolean (drawnCircuit d) (renamedSingles d k n) r s ≡ singlesUnder d v k n
+    unfolding readings settle drawnCircuit singlesUnder boolean
+    singles-same k n l = map-tabulate (value boolean values) n _ ∙ tabulate-ext n _ _ (λ i h. literal-same (single d (k + i)) (p .singles (k + i) (omega arith)))
+
+    pub shown-same : shownBy (circuitOf (d .counts) (table d)) r s ≡ shownUnder d v
+    unfolding drawnCircuit shownBy shownUnder
+    shown-same = ap (λ (c : Circuit). shownBy c r s) (table-circuit d) ∙ same-shown
+        (singles-same 0 (d .counts .lamps) (omega arith))
+        (singles-same (d .counts .lamps) (d .counts .bads) (omega arith))
+        (singles-same (verdicts (d .counts)) (d .counts .constraints) (omega arith))
 
   -- so all solutions agree on the variables that are defined
   pub one-solution : (v v′ : ℕ → Bool) → Solves d r s v → Solves d r s v′ → (x : ℕ) → Defined d x → v (x / 2) ≡ v′ (x / 2)
@@ -166,51 +171,3 @@ module _ (d : Drawing) (p : Proper d) (r s : List Bool) (inputs-long : length r 
     latches = λ i h. ap (λ (n : ℕ). getD values n false) (name-leaf (d .counts .inputs + i) (omega arith)) ∙ entry-latch i h;
     gates = λ i h. gate-solved i h;
   }
-
-  -- ---- one tick
-
-  abbrev circuit : Circuit
-  circuit = circuitOf (d .counts) (table d)
-
-  -- what the text does at a tick is what the table does, and nothing else
-  pub does : (next′ lamps′ : List Bool) → Does d r s next′ lamps′ ↔ ((next′ ≡ next boolean circuit r s) × (lamps′ ≡ lamps boolean circuit r s))
-  does next′ lamps′ = (
-    λ (t : Does d r s next′ lamps′). (t .next-is ∙ sym (next-same (t .values) (t .solves)), t .lamps-are ∙ sym (lamps-same (t .values) (t .solves))),
-    λ (e : (next′ ≡ next boolean circuit r s) × (lamps′ ≡ lamps boolean circuit r s)). record {
-      values = solution;
-      solves = solution-solves;
-      next-is = e .0 ∙ next-same solution solution-solves;
-      lamps-are = e .1 ∙ lamps-same solution solution-solves;
-    },
-  )
-
--- ---- every sequence of switch settings
-
-module _ (d : Drawing) (p : Proper d) where
-  next-long : (r s : List Bool) → length (next boolean (circuitOf (d .counts) (table d)) r s) ≡ d .counts .latches
-  unfolding circuitOf
-  next-long r s = next-sized boolean (circuitOf (d .counts) (table d)) r s ∙ length-tabulate (d .counts .latches) _
-
-  -- tick by tick, the states and lamps of the text are those of the table
-
-  module _ (switches states lights : ℕ → List Bool) (set : (t : ℕ) → length (switches t) ≡ d .counts .inputs) (begins : length (states 0) ≡ d .counts .latches) where
-    state-long : Behaves d switches states lights → (t : ℕ) → length (states t) ≡ d .counts .latches
-    unfolding nextUnder
-    state-long b zero = begins
-    state-long b (suc t) = ap length (b t .next-is) ∙ length-tabulate (d .counts .latches) _
-
-    pub behaves-follows : Behaves d switches states lights → Follows d switches states lights
-    behaves-follows b = record {
-      state = λ t. does d p (switches t) (states t) (set t) (state-long b t) (states (suc t)) (lights t) .0 (b t) .0;
-      light = λ t. does d p (switches t) (states t) (set t) (state-long b t) (states (suc t)) (lights t) .0 (b t) .1;
-    }
-
-    follows-long : Follows d switches states lights → (t : ℕ) → length (states t) ≡ d .counts .latches
-    follows-long f zero = begins
-    follows-long f (suc t) = ap length (f .state t) ∙ next-long (switches t) (states t)
-
-    pub follows-behaves : Follows d switches states lights → Behaves d switches states lights
-    follows-behaves f t = does d p (switches t) (states t) (set t) (follows-long f t) (states (suc t)) (lights t) .1 (f .state t, f .light t)
-
-    pub behaviour : Behaves d switches states lights ↔ Follows d switches states lights
-    behaviour = (behaves-follows, follows-behaves)

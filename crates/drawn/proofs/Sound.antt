@@ -8,7 +8,6 @@ use native.Mathlib.Omega.{arith}
 use borrow.Author.Tests.{leb-true}
 use lib.Dec.{leb}
 use lib.ListN.{getD}
-use Rattle.circuit.proofs.Legality.{passed-bounded}
 use Rattle.circuit.specs.RulesInCode.{Bounded, Legal}
 use Rattle.circuit.specs.declared.Counts.{Counts}
 use Rattle.circuit.specs.Refusal.{Test, _or_}
@@ -18,10 +17,10 @@ use Rattle.text.specs.Outcome.{accepted, refused}
 use Rattle.text.specs.Text.{resetWord, words, Lines, readLines, countsOf, endingOf}
 use Rattle.text.proofs.Steps.{line-accepted}
 use Rattle.drawn.specs.Drawing.{Drawing, reset, drawingTests, table}
-use Rattle.drawn.specs.Lines.{anyTests, anyHeaderTests, drawing, afterTests, readAny}
+use Rattle.drawn.specs.Lines.{anyTests, drawing, afterTests, readAny}
 use Rattle.drawn.proofs.Proper.{Proper, proper}
 use Rattle.drawn.proofs.Tables.{table-legal}
-use Rattle.drawn.proofs.Reading.{any-numbered, drawing-accepted, text-accepted}
+use Rattle.drawn.proofs.Reading.{any-numbered, drawing-accepted, text-accepted, any-header}
 
 -- ---- what that says of the drawing
 
@@ -55,17 +54,18 @@ pub record Sound (d : Drawing) : Type 0 where
   pub proper : Proper d
 
 pub accepted-sound : (t : List ℕ) {d : Drawing} → readAny t ≡ accepted d → Sound d
-unfolding readAny anyHeaderTests afterTests kinds
+unfolding readAny afterTests kinds
 accepted-sound t {d} a =
     let ending : List ℕ = endingOf t in
     let f = text-accepted ending t a in
     let m : ℕ = getD (f .numbers) 0 0 in
     let c : Counts = countsOf (f .numbers) in
+    let h = any-header (f .numbers) (f .passes) in
     let q = drawing-accepted ending m c (f .rest) (f .on) in
     let g = inputs-read ending (2 * m + 1) 2 (c .inputs) _ (f .rest) (q .1) in
     rw (← (q .3)) (record {
-      bounded = passed-bounded c (f .passes .1 .1 .1);
-      most = leb-true m 4095 (f .passes .1 .0);
+      bounded = h .0;
+      most = h .1;
       resets = λ i h. rw (g .3) (latches-read ending (2 * m + 1) _ (c .latches) _ (g .0) (g .2) i h);
       proper = proper (drawing m c (q .0)) (passed-append (drawingTests (drawing m c (q .0))) _ (q .2) .0);
     })

@@ -3,64 +3,28 @@ use mathlib.Core.Path.{_≡_, ap, ap₂, _∙_}
 use mathlib.Core.List.{List, _++_}
 use Prim.Native.Nat.{ℕ, _+_, _*_, _-_, _/_, _%_, _<_, _≤_}
 use native.Mathlib.Omega.{arith}
-use lib.ListN.{length, getD, length-append, List·getD-append}
+use lib.ListN.{length, getD, length-append}
 use Rattle.three.specs.Lists.{tabulate}
 use Rattle.three.proofs.Lists.{length-tabulate, getD-tabulate, tabulate-ext}
 use Rattle.circuit.specs.RulesInCode.{Bounded, Legal}
 use Rattle.circuit.specs.Circuit.{Circuit, Latch, Gate}
-use Rattle.circuit.specs.Table.{top, tableLength, circuitOf, literalsAt, gatesAt}
+use Rattle.circuit.specs.Table.{top, tableLength, circuitOf, literals, literalsAt, badsAt, constraintsAt, gatesAt, verdicts}
 use Rattle.drawn.specs.Numbers.{pairs}
-use Rattle.drawn.specs.Drawing.{Drawing, leaves, nextLiteral, reset, lamp, left, right, gateAt, name, rename, table}
+use Rattle.drawn.specs.Drawing.{Drawing, leaves, nextLiteral, reset, single, left, right, gateAt, name, rename, table}
 use Rattle.drawn.proofs.Proper.{Defined, Proper}
 use Rattle.drawn.proofs.Naming.{named, left-named, right-named}
-use Rattle.drawn.proofs.Picking.{getD-behind}
+use Rattle.drawn.proofs.Pairs.{length-pairs, pairs-left, pairs-right, first-part, second-part, third-part}
 
--- ---- pairs
-
-module _ (n : ℕ) (f g : ℕ → ℕ) where
-  pub length-pairs : length (pairs n f g) ≡ 2 * n
-  unfolding pairs
-  length-pairs = length-tabulate (2 * n) _
-
-  pub pairs-left : (i : ℕ) → i < n → getD (pairs n f g) (2 * i) 0 ≡ f i
-  unfolding pairs
-  pairs-left i h =
-      let a : 2 * i % 2 ≡ 0 = omega arith in
-      let b : 2 * i / 2 ≡ i = omega arith in
-      getD-tabulate (2 * n) _ (2 * i) 0 (omega arith) ∙ rw (a, b)
-
-  pub pairs-right : (i : ℕ) → i < n → getD (pairs n f g) (2 * i + 1) 0 ≡ g i
-  unfolding pairs
-  pairs-right i h =
-      let a : (2 * i + 1) % 2 ≡ 1 = omega arith in
-      let b : (2 * i + 1) / 2 ≡ i = omega arith in
-      getD-tabulate (2 * n) _ (2 * i + 1) 0 (omega arith) ∙ rw (a, b)
-
--- ---- three lists, one behind the other
-
-module _ (xs ys zs : List ℕ) where
-  abbrev whole : List ℕ
-  whole = xs ++ (ys ++ zs)
-
-  pub first-part : (i : ℕ) → i < length xs → getD whole i 0 ≡ getD xs i 0
-  first-part i h = List·getD-append xs (ys ++ zs) 0 i h
-
-  pub second-part : (k i : ℕ) → k ≡ length xs + i → i < length ys → getD whole k 0 ≡ getD ys i 0
-  second-part k i e h = rw e (getD-behind xs (ys ++ zs) i 0 ∙ List·getD-append ys zs 0 i h)
-
-  pub third-part : (k i : ℕ) → k ≡ length xs + (length ys + i) → getD whole k 0 ≡ getD zs i 0
-  third-part k i e = rw e (getD-behind xs (ys ++ zs) (length ys + i) 0 ∙ getD-behind ys zs i 0)
-
-same-parts : (i : ℕ) {l l′ : List Latch} {o o′ : List ℕ} {g g′ : List Gate} → l ≡ l′ → o ≡ o′ → g ≡ g′
-    → _≡_ {A = Circuit} (record { inputs = i; latches = l; lamps = o; gates = g }) (record { inputs = i; latches = l′; lamps = o′; gates = g′ })
-same-parts i a b c = cc
+same-parts : (i : ℕ) {l l′ : List Latch} {g g′ : List Gate} {o o′ b b′ c c′ : List ℕ} → l ≡ l′ → g ≡ g′ → o ≡ o′ → b ≡ b′ → c ≡ c′
+    → _≡_ {A = Circuit} (record { inputs = i; latches = l; lamps = o; gates = g; bads = b; constraints = c }) (record { inputs = i; latches = l′; lamps = o′; gates = g′; bads = b′; constraints = c′ })
+same-parts i p q r s t = cc
 
 module _ (d : Drawing) where
   abbrev latchWords : List ℕ
   latchWords = pairs (d .counts .latches) (λ i. rename d (nextLiteral d i)) (reset d)
 
-  abbrev lampWords : List ℕ
-  lampWords = tabulate (d .counts .lamps) (λ i. rename d (lamp d i))
+  abbrev singleWords : List ℕ
+  singleWords = tabulate (literals (d .counts)) (λ i. rename d (single d i))
 
   abbrev gateWords : List ℕ
   gateWords = pairs (d .counts .gates) (λ p. rename d (left d (gateAt d p))) (λ p. rename d (right d (gateAt d p)))
@@ -68,59 +32,70 @@ module _ (d : Drawing) where
   latch-words : length latchWords ≡ 2 * d .counts .latches
   latch-words = length-pairs (d .counts .latches) _ _
 
-  lamp-words : length lampWords ≡ d .counts .lamps
-  lamp-words = length-tabulate (d .counts .lamps) _
+  single-words : length singleWords ≡ literals (d .counts)
+  single-words = length-tabulate (literals (d .counts)) _
 
   gate-words : length gateWords ≡ 2 * d .counts .gates
   gate-words = length-pairs (d .counts .gates) _ _
 
   pub table-length : length (table d) ≡ tableLength (d .counts)
   unfolding table
-  table-length = omega (arith, length-append latchWords (lampWords ++ gateWords), length-append lampWords gateWords, latch-words, lamp-words, gate-words)
+  table-length = omega (arith, length-append latchWords (singleWords ++ gateWords), length-append singleWords gateWords, latch-words, single-words, gate-words)
 
   pub table-next : (i : ℕ) → i < d .counts .latches → getD (table d) (2 * i) 0 ≡ rename d (nextLiteral d i)
   unfolding table
-  table-next i h = first-part latchWords lampWords gateWords (2 * i) (omega (arith, latch-words)) ∙ pairs-left (d .counts .latches) _ _ i h
+  table-next i h = first-part latchWords singleWords gateWords (2 * i) (omega (arith, latch-words)) ∙ pairs-left (d .counts .latches) _ _ i h
 
   pub table-reset : (i : ℕ) → i < d .counts .latches → getD (table d) (2 * i + 1) 0 ≡ reset d i
   unfolding table
-  table-reset i h = first-part latchWords lampWords gateWords (2 * i + 1) (omega (arith, latch-words)) ∙ pairs-right (d .counts .latches) _ _ i h
+  table-reset i h = first-part latchWords singleWords gateWords (2 * i + 1) (omega (arith, latch-words)) ∙ pairs-right (d .counts .latches) _ _ i h
 
-  pub table-lamp : (i : ℕ) → i < d .counts .lamps → getD (table d) (literalsAt (d .counts) + i) 0 ≡ rename d (lamp d i)
+  pub table-single : (i : ℕ) → i < literals (d .counts) → getD (table d) (literalsAt (d .counts) + i) 0 ≡ rename d (single d i)
   unfolding table
-  table-lamp i h =
-      second-part latchWords lampWords gateWords (literalsAt (d .counts) + i) i (omega (arith, latch-words)) (omega (arith, lamp-words, h))
-      ∙ getD-tabulate (d .counts .lamps) _ i 0 h
+  table-single i h =
+      second-part latchWords singleWords gateWords (literalsAt (d .counts) + i) i (omega (arith, latch-words)) (omega (arith, single-words, h))
+      ∙ getD-tabulate (literals (d .counts)) _ i 0 h
 
   pub table-left : (i : ℕ) → i < d .counts .gates → getD (table d) (gatesAt (d .counts) + 2 * i) 0 ≡ rename d (left d (gateAt d i))
   unfolding table
   table-left i h =
-      third-part latchWords lampWords gateWords (gatesAt (d .counts) + 2 * i) (2 * i) (omega (arith, latch-words, lamp-words))
+      third-part latchWords singleWords gateWords (gatesAt (d .counts) + 2 * i) (2 * i) (omega (arith, latch-words, single-words))
       ∙ pairs-left (d .counts .gates) _ _ i h
 
   pub table-right : (i : ℕ) → i < d .counts .gates → getD (table d) (gatesAt (d .counts) + 2 * i + 1) 0 ≡ rename d (right d (gateAt d i))
   unfolding table
   table-right i h =
-      third-part latchWords lampWords gateWords (gatesAt (d .counts) + 2 * i + 1) (2 * i + 1) (omega (arith, latch-words, lamp-words))
+      third-part latchWords singleWords gateWords (gatesAt (d .counts) + 2 * i + 1) (2 * i + 1) (omega (arith, latch-words, single-words))
       ∙ pairs-right (d .counts .gates) _ _ i h
 
   -- ---- the circuit
+
+  -- n lines of one literal in the new numbers, the first of them number k
+  abbrev pub renamedSingles : ℕ → ℕ → List ℕ
+  renamedSingles k n = tabulate n (λ i. rename d (single d (k + i)))
 
   unfoldable pub drawnCircuit : Circuit
   drawnCircuit = record {
     inputs = d .counts .inputs;
     latches = tabulate (d .counts .latches) (λ i. record { next = rename d (nextLiteral d i); reset = reset d i });
-    lamps = tabulate (d .counts .lamps) (λ i. rename d (lamp d i));
+    lamps = renamedSingles 0 (d .counts .lamps);
     gates = tabulate (d .counts .gates) (λ p. record { left = rename d (left d (gateAt d p)); right = rename d (right d (gateAt d p)) });
+    bads = renamedSingles (d .counts .lamps) (d .counts .bads);
+    constraints = renamedSingles (verdicts (d .counts)) (d .counts .constraints);
   }
+
+  table-singles : (k n at : ℕ) → at ≡ literalsAt (d .counts) + k → k + n ≤ literals (d .counts) → tabulate n (λ i. getD (table d) (at + i) 0) ≡ renamedSingles k n
+  table-singles k n at e l = tabulate-ext n _ _ (λ i h. let place : at + i ≡ literalsAt (d .counts) + (k + i) = omega arith in rw place (table-single (k + i) (omega arith)))
 
   pub table-circuit : circuitOf (d .counts) (table d) ≡ drawnCircuit
   unfolding circuitOf drawnCircuit
   table-circuit =
       let ls = tabulate-ext {A = Latch} (d .counts .latches) _ (λ i. record { next = rename d (nextLiteral d i); reset = reset d i }) (λ i h. ap₂ (λ (a b : ℕ). record { next = a; reset = b }) (table-next i h) (table-reset i h)) in
-      let os = tabulate-ext (d .counts .lamps) _ (λ i. rename d (lamp d i)) (λ i h. table-lamp i h) in
       let gs = tabulate-ext {A = Gate} (d .counts .gates) _ (λ p. record { left = rename d (left d (gateAt d p)); right = rename d (right d (gateAt d p)) }) (λ i h. ap₂ (λ (a b : ℕ). record { left = a; right = b }) (table-left i h) (table-right i h)) in
-      same-parts (d .counts .inputs) ls os gs
+      same-parts (d .counts .inputs) ls gs
+      (table-singles 0 (d .counts .lamps) (literalsAt (d .counts)) (omega arith) (omega arith))
+      (table-singles (d .counts .lamps) (d .counts .bads) (badsAt (d .counts)) (omega arith) (omega arith))
+      (table-singles (verdicts (d .counts)) (d .counts .constraints) (constraintsAt (d .counts)) (omega arith) (omega arith))
 
   -- ---- legal
 
@@ -139,7 +114,7 @@ module _ (d : Drawing) where
       long = omega (arith, table-length);
       next = λ i h. rw (table-next i h) (rename-top (nextLiteral d i) (p .next i h));
       reset = λ i h. rw (table-reset i h) (resets i h);
-      literal = λ i h. rw (table-lamp i h) (rename-top (lamp d i) (p .lamps i h));
+      literal = λ i h. rw (table-single i h) (rename-top (single d i) (p .singles i h));
       left = λ i h. let n = rename-below (left d (gateAt d i)) (leaves d + i) (left-named d p i h) in rw (table-left i h) (omega (arith, n));
       right = λ i h. let n = rename-below (right d (gateAt d i)) (leaves d + i) (right-named d p i h) in rw (table-right i h) (omega (arith, n));
     }

@@ -1,4 +1,4 @@
--- A text that the plain reader accepts: its plain table and the table made here have the same next state and lamps, for all switches and states. Assumes nothing.
+-- A text that the plain reader accepts: its plain table and the table made here have the same next state, lamps, bad states and constraints, for all switches and states. Assumes nothing.
 use mathlib.Core.Path.{_≡_, refl, sym, ap, ap₂, _∙_}
 use mathlib.Core.Bool.{Bool, false, _&&_}
 use mathlib.Core.List.{List, _∷_, _++_, map}
@@ -9,13 +9,13 @@ use Rattle.three.specs.Lists.{tabulate}
 use Rattle.three.specs.Value.{boolean}
 use Rattle.three.proofs.Lists.{length-tabulate, getD-tabulate, map-tabulate, tabulate-ext}
 use Rattle.circuit.specs.RulesInCode.{Legal}
-use Rattle.circuit.specs.Circuit.{Circuit, Latch, Gate, value, pass, readings, settle, next, lamps}
-use Rattle.circuit.specs.Table.{circuitOf}
-use Rattle.drawn.specs.Drawing.{Drawing, leaves, lines, own, nextLiteral, lamp, left, right, table}
-use Rattle.drawn.specs.Meaning.{literal, Solves, nextUnder, lampsUnder}
+use Rattle.circuit.specs.Circuit.{Circuit, Latch, Gate, value, pass, readings, settle, next}
+use Rattle.circuit.specs.Table.{circuitOf, literalsAt, badsAt, constraintsAt, verdicts}
+use Rattle.drawn.specs.Drawing.{Drawing, leaves, lines, own, nextLiteral, single, left, right, table}
+use Rattle.drawn.specs.Meaning.{literal, Solves, nextUnder, shownBy, singlesUnder, shownUnder}
 use Rattle.drawn.proofs.Proper.{Proper}
 use Rattle.circuit.proofs.Fixed.{Falling, falling, entry-front, pass-at}
-use Rattle.drawn.proofs.Same.{next-same, lamps-same}
+use Rattle.drawn.proofs.Same.{next-same, shown-same, same-shown}
 use Rattle.drawn.proofs.Picking.{getD-behind}
 
 module _ (d : Drawing) (p : Proper d) (due : (k : ℕ) → k < lines d → own d k ≡ 2 + 2 * k) (l : Legal (d .counts) (d .words))
@@ -72,9 +72,15 @@ module _ (d : Drawing) (p : Proper d) (due : (k : ℕ) → k < lines d → own d
       ∙ tabulate-ext (d .counts .latches) _ _ (λ i h. sym (literal-entry (nextLiteral d i)))
       ∙ sym (ap (map (value boolean values)) (map-tabulate (λ (x : Latch). x .next) (d .counts .latches) _) ∙ map-tabulate (value boolean values) (d .counts .latches) _)
 
-  pub lamps-twins : lamps boolean (circuitOf (d .counts) (table d)) r s ≡ lamps boolean plain r s
-  unfolding readings settle circuitOf lampsUnder boolean
-  lamps-twins =
-      lamps-same d p r s inputs-long latches-long entry entries-solve
-      ∙ tabulate-ext (d .counts .lamps) _ _ (λ i h. sym (literal-entry (lamp d i)))
-      ∙ sym (map-tabulate (value boolean values) (d .counts .lamps) _)
+  singles-plain : (k n at : ℕ) → at ≡ literalsAt (d .counts) + k → singlesUnder d entry k n ≡ readings boolean plain (tabulate n (λ i. getD (d .words) (at + i) 0)) r s
+  unfolding readings settle circuitOf singlesUnder boolean
+  singles-plain k n at e =
+      tabulate-ext n _ _ (λ i h. sym (literal-entry (single d (k + i))) ∙ ap (λ (x : ℕ). value boolean values (getD (d .words) x 0)) (omega arith))
+      ∙ sym (map-tabulate (value boolean values) n _)
+
+  pub shown-twins : shownBy (circuitOf (d .counts) (table d)) r s ≡ shownBy plain r s
+  unfolding circuitOf shownBy shownUnder
+  shown-twins = shown-same d p r s inputs-long latches-long entry entries-solve ∙ same-shown
+      (singles-plain 0 (d .counts .lamps) (literalsAt (d .counts)) (omega arith))
+      (singles-plain (d .counts .lamps) (d .counts .bads) (badsAt (d .counts)) (omega arith))
+      (singles-plain (verdicts (d .counts)) (d .counts .constraints) (constraintsAt (d .counts)) (omega arith))

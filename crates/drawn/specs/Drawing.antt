@@ -11,8 +11,8 @@ use Rattle.circuit.specs.Table.{variables, literalsAt, gatesAt, literals}
 use Rattle.drawn.specs.Numbers.{pairs}
 use Rattle.drawn.specs.Depth.{Source, leaf, gate, loopless, order}
 
--- M, I, L, O and A; the own literals of the inputs, the latches and the gates, in file order; and the other numbers laid out as in the table:
--- for each latch its next literal and its reset; then the lamp literals; then two operands a gate
+-- M and the counts; the own literals of the inputs, the latches and the gates, in file order; and the other numbers laid out as in the table:
+-- for each latch its next literal and its reset; then the literals of lamps, bad states and constraints; then two operands a gate
 pub record Drawing : Type 0 where
   pub most : ℕ
   pub counts : Counts
@@ -38,8 +38,9 @@ module _ (d : Drawing) where
   abbrev pub reset : ℕ → ℕ
   reset i = getD (d .words) (2 * i + 1) 0
 
-  abbrev pub lamp : ℕ → ℕ
-  lamp i = getD (d .words) (literalsAt (d .counts) + i) 0
+  -- the lines of one literal: lamps, then bad states, then constraints
+  abbrev pub single : ℕ → ℕ
+  single i = getD (d .words) (literalsAt (d .counts) + i) 0
 
   abbrev pub left : ℕ → ℕ
   left i = getD (d .words) (gatesAt (d .counts) + 2 * i) 0
@@ -82,7 +83,7 @@ module _ (d : Drawing) where
   unfoldable pub allDefined : Bool
   allDefined =
       every (d .counts .latches) (λ i. defined (nextLiteral i))
-      && (every (literals (d .counts)) (λ i. defined (lamp i))
+      && (every (literals (d .counts)) (λ i. defined (single i))
       && (every (d .counts .gates) (λ i. defined (left i)) && every (d .counts .gates) (λ i. defined (right i))))
 
   unfoldable pub drawingTests : List Test
@@ -110,9 +111,9 @@ module _ (d : Drawing) where
   unfoldable pub rename : ℕ → ℕ
   rename x = 2 * name (x / 2) + x % 2
 
-  -- the table: latches and lamps as they stand, gates in their order, operands as written
+  -- the table: latches, lamps, bad states and constraints as they stand, gates in their order, operands as written
   unfoldable pub table : List ℕ
   table =
       pairs (d .counts .latches) (λ i. rename (nextLiteral i)) reset
-      ++ (tabulate (literals (d .counts)) (λ i. rename (lamp i))
+      ++ (tabulate (literals (d .counts)) (λ i. rename (single i))
       ++ pairs (d .counts .gates) (λ p. rename (left (gateAt p))) (λ p. rename (right (gateAt p))))

@@ -47,6 +47,11 @@ pub no-start : madeOf "aag 3 0 2 1 0/6 2 6/2 7 1/3/" ≡ made (4 ∷ 2 ∷ 3 ∷
 unfolding madeOf every tabulate
 no-start = refl
 
+-- a lamp, a bad state and a constraint
+pub guarded : madeOf "aag 3 1 1 1 0 1 1/6/2 6/3/7/2/" ≡ made (2 ∷ 0 ∷ 5 ∷ 3 ∷ 4 ∷ []) (0 ∷ 2 ∷ 0 ∷ 1 ∷ [])
+unfolding madeOf every tabulate
+guarded = refl
+
 -- lines that end with bytes 13 and 10
 pub office : madeOf "aag 2 1 0 1 1\r/4\r/3\r/2 4 5\r/c\r/any/thing" ≡ made (5 ∷ 2 ∷ 3 ∷ []) (0 ∷ 2 ∷ 1 ∷ [])
 unfolding madeOf every tabulate
@@ -66,6 +71,8 @@ pub refusals : List Refusal
 refusals =
     "aag 4096 0 0 0 0/" gives 3
     ∷ "aag 1 1 0 0 1/2/4 2 2/" gives 3
+    ∷ "aag 0 0 0 0 0 65/" gives 3
+    ∷ "aag 0 0 0 0 0 0 0 0 1/" gives 3
     ∷ "aag 2 1 0 0 0/3 4/" gives 4
     ∷ "aag 2 0 1 0 0/3 6 2/" gives 6
     ∷ "aag 2 0 1 0 0/3 4 2/" gives 8
@@ -79,6 +86,8 @@ refusals =
     ∷ "aag 3 1 0 1 1/4/2/4 4 4/" gives 20
     ∷ "aag 3 1 0 1 1/4/2/6 6 6/" gives 21
     ∷ "aag 2 0 1 0 0/4 2/" gives 21
+    ∷ "aag 2 1 0 0 0 1/2/4/" gives 21
+    ∷ "aag 2 1 0 0 0 0 1/2/5/" gives 21
     ∷ "aag 2 1 0 0 1/2/4 3 5/x" gives 22
     ∷ "aag 3 1 0 0 2/2/4 6 2/6 2 5/" gives 22
     ∷ "aag 3 1 0 0 2/2/4 2 2/6 7 0/" gives 22

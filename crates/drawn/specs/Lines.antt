@@ -3,15 +3,15 @@
 use mathlib.Core.Path.{_≡_}
 use mathlib.Core.List.{List, [], _∷_, _++_}
 use Prim.Native.Nat.{ℕ, suc, _+_, _*_}
-use lib.Dec.{leb, eqb}
+use lib.Dec.{leb}
 use lib.ListN.{length, getD}
 use Rattle.three.specs.Lists.{over}
 use Rattle.circuit.specs.declared.Counts.{Counts}
 use Rattle.circuit.specs.Refusal.{Test, _or_}
-use Rattle.circuit.specs.Table.{variables, tableLength, ceilingTests, Kind, kinds, literalTests}
+use Rattle.circuit.specs.Table.{variables, tableLength, Kind, kinds, literalTests}
 use Rattle.text.specs.Part.{got, ill}
 use Rattle.text.specs.Outcome.{Outcome, refused, tested, further, onward, numberOf, leaves}
-use Rattle.text.specs.Text.{fits, words, ends, Lines, readLines, header, countsOf, endingOf}
+use Rattle.text.specs.Text.{fits, words, ends, Lines, readLines, header, countsOf, countTests, endingOf}
 use Rattle.text.specs.Calls.{zeros}
 use Rattle.drawn.specs.Drawing.{Drawing, drawingTests, table, renumbered}
 
@@ -19,10 +19,10 @@ use Rattle.drawn.specs.Drawing.{Drawing, drawingTests, table, renumbered
 unfoldable pub anyTests : ℕ → Kind → List ℕ → List Test
 anyTests most k ns = fits k (length ns) or 4 ∷ literalTests most k (words k ns)
 
--- 2, then 3: M is at most 4,095 and at least I + L + A, and the ceilings hold
+-- 2, then 3: as in the plain text, but that M is at most 4,095 and at least I + L + A
 unfoldable pub anyHeaderTests : List ℕ → List Test
 anyHeaderTests ns =
-    eqb (length ns) 5 or 2 ∷ leb (getD ns 0 0) 4095 or 3 ∷ leb (variables (countsOf ns)) (getD ns 0 0) or 3 ∷ ceilingTests (countsOf ns)
+    countTests ns ++ (leb (getD ns 0 0) 4095 or 3 ∷ leb (variables (countsOf ns)) (getD ns 0 0) or 3 ∷ [])
 
 -- the lines behind the first: M and the counts are the first line's
 abbrev pub bodyOf : List ℕ → ℕ → Counts → List ℕ → Outcome Lines
@@ -58,7 +58,7 @@ roomTests words names d = leb (tableLength (d .counts)) (length words) or 10 ∷
 unfoldable pub readAnyInto : List ℕ → List ℕ → List ℕ → Outcome Drawing
 readAnyInto text words names = further (roomTests words names) (readAny text)
 
--- What is left by an outcome: the number, I, L, O and A, M, and both buffers. A refusal changes no word; words beyond stay.
+-- What is left by an outcome: the number, the counts, M, and both buffers. A refusal changes no word; words beyond stay.
 pub record LeftBy (o : Outcome Drawing) (words names : List ℕ) (number : ℕ) (counts : Counts) (most : ℕ) (words′ names′ : List ℕ) : Type 0 where
   pub answers : number ≡ numberOf o
   pub returns : counts ≡ leaves (λ d. d .counts) zeros o

@@ -7,13 +7,27 @@ use Prim.Native.Nat.{ℕ, suc, _+_, _*_, _/_, _%_, _<_}
 use lib.ListN.{getD}
 use Rattle.three.specs.Lists.{tabulate}
 use Rattle.three.specs.Value.{boolean}
-use Rattle.circuit.specs.Circuit.{signed, next, lamps}
-use Rattle.circuit.specs.Table.{circuitOf}
-use Rattle.drawn.specs.Drawing.{Drawing, leaves, own, nextLiteral, lamp, left, right, table}
+use Rattle.circuit.specs.Circuit.{Circuit, signed, next, lamps, bads, constraints}
+use Rattle.circuit.specs.Table.{circuitOf, verdicts}
+use Rattle.drawn.specs.Drawing.{Drawing, leaves, own, nextLiteral, single, left, right, table}
 
 -- a literal under an assignment of the variables
 unfoldable pub literal : (ℕ → Bool) → ℕ → Bool
 literal v x = signed boolean (x % 2) (v (x / 2))
+
+-- What is read at a tick beside the next state: each lamp, bad state and constraint, by position in the file
+pub record Shown : Type 0 where
+  pub lamps : List Bool
+  pub bads : List Bool
+  pub constraints : List Bool
+
+-- what a circuit shows
+unfoldable pub shownBy : Circuit → List Bool → List Bool → Shown
+shownBy c switches state = record {
+  lamps = lamps boolean c switches state;
+  bads = bads boolean c switches state;
+  constraints = constraints boolean c switches state;
+}
 
 module _ (d : Drawing) where
   -- An assignment that meets every line, for these switches and this state, both by position in the file
@@ -23,28 +37,36 @@ module _ (d : Drawing) where
     pub latches : (i : ℕ) → i < d .counts .latches → v (own d (d .counts .inputs + i) / 2) ≡ getD state i false
     pub gates : (i : ℕ) → i < d .counts .gates → v (own d (leaves d + i) / 2) ≡ (literal v (left d i) && literal v (right d i))
 
-  -- the next state and the lamps under an assignment
+  -- the next state under an assignment, and n lines of one literal, the first of them number k
   unfoldable pub nextUnder : (ℕ → Bool) → List Bool
   nextUnder v = tabulate (d .counts .latches) (λ i. literal v (nextLiteral d i))
 
-  unfoldable pub lampsUnder : (ℕ → Bool) → List Bool
-  lampsUnder v = tabulate (d .counts .lamps) (λ i. literal v (lamp d i))
+  unfoldable pub singlesUnder : (ℕ → Bool) → ℕ → ℕ → List Bool
+  singlesUnder v k n = tabulate n (λ i. literal v (single d (k + i)))
 
-  -- What the text does at one tick: some solution gives the next state and the lamps
-  pub record Does (switches state next lamps : List Bool) : Type 0 where
+  -- lamps, bad states and constraints
+  unfoldable pub shownUnder : (ℕ → Bool) → Shown
+  shownUnder v = record {
+    lamps = singlesUnder v 0 (d .counts .lamps);
+    bads = singlesUnder v (d .counts .lamps) (d .counts .bads);
+    constraints = singlesUnder v (verdicts (d .counts)) (d .counts .constraints);
+  }
+
+  -- What the text does at one tick: some solution gives the next state and what is shown
+  pub record Does (switches state next : List Bool) (shown : Shown) : Type 0 where
     pub values : ℕ → Bool
     pub solves : Solves switches state values
     pub next-is : next ≡ nextUnder values
-    pub lamps-are : lamps ≡ lampsUnder values
+    pub shown-is : shown ≡ shownUnder values
 
-  -- What the text does under a sequence of switch settings: states and lamps, tick by tick
-  abbrev pub Behaves : (ℕ → List Bool) → (ℕ → List Bool) → (ℕ → List Bool) → Type 0
-  Behaves switches states lamps = (t : ℕ) → Does (switches t) (states t) (states (suc t)) (lamps t)
+  -- What the text does under a sequence of switch settings: states and what is shown, tick by tick
+  abbrev pub Behaves : (ℕ → List Bool) → (ℕ → List Bool) → (ℕ → Shown) → Type 0
+  Behaves switches states shows = (t : ℕ) → Does (switches t) (states t) (states (suc t)) (shows t)
 
   -- What the table does under the same
-  pub record Follows (switches states lights : ℕ → List Bool) : Type 0 where
+  pub record Follows (switches states : ℕ → List Bool) (shows : ℕ → Shown) : Type 0 where
     pub state : (t : ℕ) → states (suc t) ≡ next boolean (circuitOf (d .counts) (table d)) (switches t) (states t)
-    pub light : (t : ℕ) → lights t ≡ lamps boolean (circuitOf (d .counts) (table d)) (switches t) (states t)
+    pub shown : (t : ℕ) → shows t ≡ shownBy (circuitOf (d .counts) (table d)) (switches t) (states t)
 
   -- ---- loops
 

@@ -87,7 +87,7 @@ counted (suc n) ns r = got (take (suc n) ns) r
 
 -- no line has more numbers
 abbrev pub mostNumbers : ℕ
-mostNumbers = 5
+mostNumbers = 9
 
 -- The array of a line has a place for each number, of which the line takes so many
 pub record Shape (l : ReadLine) : Type 0 where

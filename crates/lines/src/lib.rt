@@ -28,8 +28,8 @@ pub enum InLine {
     NotInLine,
 }
 
-// No line has more numbers than the first: M I L O A.
-pub const MOST_NUMBERS: usize = 5;
+// No line has more numbers than the first: M I L O A B C J F.
+pub const MOST_NUMBERS: usize = 9;
 
 // A line of the body has at most three.
 pub const BODY_NUMBERS: usize = 3;

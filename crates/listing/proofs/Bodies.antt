@@ -84,7 +84,7 @@ module _ (c : Counts) where
   owns-room b (suc (suc zero)) m h = omega (arith, b)
   owns-room b (suc (suc (suc n))) m h = omega (arith, b)
 
-  pub words-room : Bounded c → (n m : ℕ) → 7742 ≤ m → 0 + words-to n ≤ m
+  pub words-room : Bounded c → (n m : ℕ) → 7870 ≤ m → 0 + words-to n ≤ m
   unfolding worded width coded
   words-room b zero m h = omega (arith, b)
   words-room b (suc zero) m h = omega (arith, b)

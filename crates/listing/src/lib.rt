@@ -179,7 +179,7 @@ fn list_lines(
     }
 }
 
-// One line for each input, latch, lamp and gate, in that order.
+// One line for each input, latch, lamp, bad state, constraint and gate, in that order.
 pub fn list_body(
     text: &[u8],
     at: usize,
@@ -189,7 +189,7 @@ pub fn list_body(
     owns: &mut [u32],
     words: &mut [u16],
 ) -> Progress
-    requires { ⌜ Bounded counts × (at ≤ length (now text)) × (most < 8192) × (4095 ≤ length (now owns)) × (7742 ≤ length (now words)) ⌝ }
+    requires { ⌜ Bounded counts × (at ≤ length (now text)) × (most < 8192) × (4095 ≤ length (now owns)) × (7870 ≤ length (now words)) ⌝ }
     ensures { λ r. ⌜ BodyListed (endingBytes ending) (now (text .entry)) at counts most (now (owns .entry)) (now (words .entry)) r (now (owns .exit)) (now (words .exit)) ⌝ }
 {
     let body = Progress {

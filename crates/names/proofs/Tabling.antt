@@ -11,9 +11,9 @@ use Rattle.three.proofs.Lists.{tabulate-ext, length-tabulate, getD-tabulate}
 use Rattle.three.proofs.Loops.{Stored, stored-next, stored-last, over-paste}
 use Rattle.circuit.specs.declared.Counts.{Counts}
 use Rattle.circuit.specs.Table.{tableLength, literals, literalsAt, gatesAt}
-use Rattle.drawn.proofs.Tables.{length-pairs, pairs-left, pairs-right, first-part, second-part, third-part}
+use Rattle.drawn.proofs.Pairs.{length-pairs, pairs-left, pairs-right, first-part, second-part, third-part}
 use Rattle.drawn.specs.Numbers.{pairs}
-use Rattle.drawn.specs.Drawing.{Drawing, nextLiteral, lamp, left, right, reset, gateAt, name, rename, table}
+use Rattle.drawn.specs.Drawing.{Drawing, nextLiteral, single, left, right, reset, gateAt, name, rename, table}
 use Rattle.names.specs.Naming.{renamedBy}
 use Rattle.names.specs.Tabling.{tableBy, Tabled}
 
@@ -41,7 +41,7 @@ module _ (d : Drawing) (names order : List ℕ) (named : (v : ℕ) → getD name
       ap₂ (λ (xs ys : List ℕ). xs ++ ys)
       (pairs-ext (d .counts .latches) _ (reset d) _ (reset d) (λ i h. renamed-same (nextLiteral d i)) (λ i h. refl))
       (ap₂ (λ (xs ys : List ℕ). xs ++ ys)
-      (tabulate-ext (literals (d .counts)) _ _ (λ i h. renamed-same (lamp d i)))
+      (tabulate-ext (literals (d .counts)) _ _ (λ i h. renamed-same (single d i)))
       (pairs-ext (d .counts .gates) _ _ _ _
       (λ q h. renamed-same (left d (getD order q 0)) ∙ ap (λ (i : ℕ). rename d (left d i)) (ordered q h))
       (λ q h. renamed-same (right d (getD order q 0)) ∙ ap (λ (i : ℕ). rename d (right d i)) (ordered q h))))

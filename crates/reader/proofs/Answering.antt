@@ -16,7 +16,7 @@ use Rattle.circuit.specs.RulesInCode.{Bounded}
 use Rattle.text.specs.Part.{got}
 use Rattle.text.specs.Outcome.{Outcome, accepted, refused, onward, leaves}
 use Rattle.text.specs.OutcomeInCode.{after}
-use Rattle.text.specs.Text.{magic, ends, Lines, readLines, firstLine, countsOf, headerTests, Content, readOpened, circuitLines, readEnded, endingOf, readText}
+use Rattle.text.specs.Text.{magic, ends, Lines, readLines, firstLine, countsOf, countTests, headerTests, Content, readOpened, circuitLines, readEnded, endingOf, readText}
 use Rattle.text.proofs.Steps.{thenEnds, header-ill, header-stops, header-fits, lines-stop, end-stops, end-fits, opened-long}
 use Rattle.text.specs.Calls.{intoTable, zeros, ReadBy}
 use Rattle.lines.specs.declared.ReadLine.{ReadLine}
@@ -26,25 +26,25 @@ use Rattle.reader.specs.declared.Judgement.the-variants.{Refused, Body}
 use Rattle.lines.specs.LinesInCode.{from, numbersOf, LineFound}
 use Rattle.reader.specs.ReaderInCode.{Reads, left, LinesJudged, kindsThen, linesOf, BodyAt, TextJudged, bodyWords, stand, Fillable}
 use Rattle.circuit.proofs.Refusals.{passes}
-use Rattle.circuit.proofs.Legality.{passed-bounded}
+use Rattle.text.proofs.Heads.{head-bounded}
 use Rattle.text.proofs.Outcomes.{accepted-same}
 use Rattle.text.proofs.Endings.{describes}
 use Rattle.text.proofs.Answers.{read-stops, read-short, read-fits, reading-refused, reading-accepted}
-use Rattle.reader.proofs.Opening.{header-count}
+use Rattle.reader.proofs.Opening.{header-missing}
 use Rattle.reader.proofs.Bodies.{refused-left, accepted-left, after-refused, after-none}
 use Rattle.lines.proofs.Finding.{line-got, line-ill-formed}
 
 -- ---- the first pass
 
 module _ (opening ending text : List ℕ) {l : ReadLine} (f : LineFound text (firstLine opening ending text) l) {n : ℕ} (e : n ≡ refusal (headerTests (numbersOf l))) (h : n ≡ 0) where
-  header-five : firstLine opening ending text ≡ got (numbersOf l) (from text (l .next))
-  header-five = by-test (ltb 0 (l .count))
+  header-got : firstLine opening ending text ≡ got (numbersOf l) (from text (l .next))
+  header-got = by-test (ltb 0 (l .count))
       (λ b. line-got l f (ltb-true 0 (l .count) b))
-      (λ b. absurd (omega (arith, header-count l (f .shape) (λ x. omega (arith, ltb-false 0 (l .count) b)))))
+      (λ b. absurd (omega (arith, header-missing l (f .shape) (omega (arith, ltb-false 0 (l .count) b)))))
 
   pub judged-bounded : {c : Counts} → c ≡ countsOf (numbersOf l) → Bounded c
-  unfolding headerTests ceilingTests
-  judged-bounded k = rw k (passed-bounded _ (passes (headerTests (numbersOf l)) (omega arith) (sym h ∙ e) .1 .1))
+  unfolding headerTests countTests ceilingTests
+  judged-bounded k = rw k (head-bounded (numbersOf l) (passes (headerTests (numbersOf l)) (omega arith) (sym h ∙ e)))
 
 module _ (opening ending : List ℕ) (read : Counts → Reads) (text : List ℕ) where
   pub judged-long : 60000 < length text → TextJudged opening ending read text (Refused 1)
@@ -55,7 +55,7 @@ module _ (opening ending : List ℕ) (read : Counts → Reads) (text : List ℕ)
     judged-header h = by-test (ltb 0 (l .count))
         (λ b. go n e h (line-got l f (ltb-true 0 (l .count) b)))
         (λ b. let z : l .count ≡ 0 = omega (arith, ltb-false 0 (l .count) b) in
-        let two : n ≡ 2 = e ∙ sym (header-count l (f .shape) (λ x. omega arith)) in
+        let two : n ≡ 2 = e ∙ sym (header-missing l (f .shape) z) in
         rw two (header-ill opening ending read text short (line-ill-formed l f z)))
       where
         go : (m : ℕ) → m ≡ refusal (headerTests (numbersOf l)) → (m ≡ 0 → ⊥) → firstLine opening ending text ≡ got (numbersOf l) (from text (l .next)) → readOpened opening ending read text ≡ refused m
@@ -64,7 +64,7 @@ module _ (opening ending : List ℕ) (read : Counts → Reads) (text : List ℕ)
 
     module _ (h : n ≡ 0) {c : Counts} (k : c ≡ countsOf (numbersOf l)) where
       goes-on : readOpened opening ending read text ≡ onward (λ l. record { counts = c; words = l .words }) (thenEnds ending (read c (kinds c) (from text (l .next))))
-      goes-on = rw k (header-fits opening ending read text short (header-five opening ending text f e h) (sym h ∙ e))
+      goes-on = rw k (header-fits opening ending read text short (header-got opening ending text f e h) (sym h ∙ e))
 
       -- where nothing else is read as nothing
       module _ (nothing : (d : Counts) (t : List ℕ) → left (read d [] t) ≡ accepted t) {j : Judged} (v : LinesJudged (read c) text (l .next) (kindsThen c) j) where

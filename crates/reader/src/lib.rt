@@ -18,7 +18,7 @@ ghost use Rattle.three.specs.Lists.{over};
 ghost use Rattle.circuit.specs.Refusal.{refusal};
 ghost use Rattle.circuit.specs.Table.{top, input, latch, literal, gate, several, kinds};
 ghost use Rattle.circuit.specs.RulesInCode.{Bounded};
-ghost use Rattle.text.specs.Text.{magic as plainMagic, words, lineTests, ends, firstLine, header as plainHeader, countsOf, headerTests, readLines, circuitLines, endingOf};
+ghost use Rattle.text.specs.Text.{magic as plainMagic, words, lineTests, ends, firstLine, header as plainHeader, countsOf, countTests, headerTests, readLines, circuitLines, endingOf};
 ghost use Rattle.text.specs.Calls.{zeros, Reading};
 ghost use Rattle.lines.specs.LinesInCode.{from, endingBytes, Shape, numbersOf, LineFound};
 ghost use Rattle.reader.specs.ReaderInCode.{opened, LinesJudged, kindsThen, TextJudged, WordsFit, bodyWords, stand, Fillable, KindFillable, KindFilled};
@@ -60,7 +60,7 @@ pub fn header(text: &[u8], ending: Ending) -> ReadLine
     first_line(text, &magic, ending)
 }
 
-// I, L, O and A of the first line.
+// The counts of the first line; one that is left off is 0.
 pub fn counts_of(first: ReadLine) -> Counts
     ensures { λ r. ⌜ r ≡ countsOf (numbersOf first) ⌝ }
 {
@@ -69,21 +69,38 @@ pub fn counts_of(first: ReadLine) -> Counts
         latches: lines::entry(first, 2),
         lamps: lines::entry(first, 3),
         gates: lines::entry(first, 4),
+        bads: lines::entry(first, 5),
+        constraints: lines::entry(first, 6),
     }
 }
 
-// 2 and 3, for the first line; 0 for none. An ill-formed line has no numbers, which is 2.
+// 2, then 3 for J, F and the counts; 0 for none. An ill-formed line has no numbers, which is 2.
+pub fn count_refusal(first: ReadLine) -> u32
+    requires { ⌜ Shape first ⌝ }
+    ensures { λ r. ⌜ r ≡ refusal (countTests (numbersOf first)) ⌝ }
+{
+    if first.count < 5 {
+        return 2;
+    }
+    if lines::entry(first, 7) != 0 {
+        return 3; // J
+    }
+    if lines::entry(first, 8) != 0 {
+        return 3; // F
+    }
+    table::ceiling_refusal(counts_of(first))
+}
+
+// 2 and 3, for the first line; 0 for none.
 pub fn header_refusal(first: ReadLine) -> u32
     requires { ⌜ Shape first ⌝ }
     ensures { λ r. ⌜ r ≡ refusal (headerTests (numbersOf first)) ⌝ }
 {
-    if first.count != 5 {
-        return 2;
+    let refused = count_refusal(first);
+    if refused != 0 {
+        return refused;
     }
     let counts = counts_of(first);
-    if table::ceiling_refusal(counts) != 0 {
-        return 3;
-    }
     if lines::entry(first, 0) != counts.inputs + counts.latches + counts.gates {
         return 3;
     }
@@ -241,7 +258,7 @@ pub fn ended(text: &[u8], at: usize, ending: Ending) -> bool
     lines::ending_at(text, at + 1, ending) != 0
 }
 
-// One line for each input, latch, lamp and gate, in that order.
+// One line for each input, latch, lamp, bad state, constraint and gate, in that order.
 fn judge_body(text: &[u8], at: usize, ending: Ending, counts: Counts) -> Judged
     requires { ⌜ Bounded counts × (at ≤ length (now text)) ⌝ }
     ensures { λ r. ⌜ LinesJudged (readLines (endingBytes ending) (lineTests (top counts))) (now (text .entry)) at (kindsThen counts) r ⌝ }
@@ -391,7 +408,7 @@ pub fn fill(text: &[u8], at: usize, ending: Ending, counts: Counts, table: &mut 
     fill_lines(text, gates, ending, GATE_LINE, counts.gates, table);
 }
 
-// The answer of the reader: the number of a refusal, or 0 with I, L, O and A.
+// The answer of the reader: the number of a refusal, or 0 with the counts.
 #[repr(C)]
 pub struct ReadAnswer {
     pub number: u32,
@@ -408,6 +425,8 @@ pub fn refused(number: u32) -> ReadAnswer
             latches: 0,
             lamps: 0,
             gates: 0,
+            bads: 0,
+            constraints: 0,
         },
     }
 }

@@ -1,4 +1,4 @@
--- A written text never exceeds 58,415 bytes (specification, 4.7), and one has as many: each line has its longest numbers,
+-- A written text never exceeds 59,061 bytes (specification, 4.7), and one has as many: each line has its longest numbers,
 -- and more or larger own literals make a body no shorter. Assumes nothing.
 use mathlib.Core.Path.{_≡_, refl}
 use mathlib.Core.List.{List, [], _∷_, _++_}
@@ -12,7 +12,7 @@ use Rattle.circuit.specs.RulesInCode.{Passed, Bounded}
 use Rattle.circuit.specs.Table.{variables, top, ceilingTests, Kind, input, latch, literal, gate, several, kinds, width, rowTests, tableTests, wordTests, circuitTests, literals, literalTests, operandTests}
 use Rattle.text.specs.Decimal.{digits, decimal}
 use Rattle.text.specs.Line.{lineText, endedLine}
-use Rattle.text.specs.Text.{shown, numbers, headNumbers, lineOf, writeRows, writeOpened, writeText}
+use Rattle.text.specs.Text.{shown, numbers, furtherNumbers, headNumbers, lineOf, writeRows, writeOpened, writeText}
 use Rattle.circuit.proofs.Refusals.{passed-append}
 use Rattle.text.proofs.Decimals.{length-below, length-monotone}
 use Rattle.text.proofs.Tables.{Taken, taken}
@@ -62,9 +62,9 @@ body-room most (k ∷ ks) ws m p =
 
 -- ---- the largest counts have the most room
 
--- "I 256, L 512, O 64, A 3,327"
+-- "I 256, L 512, O 64, A 3,327", and 64 bad states and constraints each
 unfoldable pub ceiling : Counts
-ceiling = record { inputs = 256; latches = 512; lamps = 64; gates = 3327 }
+ceiling = record { inputs = 256; latches = 512; lamps = 64; gates = 3327; bads = 64; constraints = 64 }
 
 -- larger own literals take no less room
 pub record Growing (each : Kind → ℕ) : Type 0 where
@@ -86,30 +86,41 @@ module _ (each : Kind → ℕ) where
   rooms-kinds grows c b =
       rooms-several input (grows .inputs) _ _ (c .inputs) 256 _ _ (omega arith) (b .inputs)
       (rooms-several latch (grows .latches) _ _ (c .latches) 512 _ _ (omega arith) (b .latches)
-      (rooms-several (λ own. literal) (λ x y h. omega arith) _ _ (literals c) 64 _ _ (omega arith) (b .lamps)
+      (rooms-several (λ own. literal) (λ x y h. omega arith) _ _ (literals c) 192 _ _ (omega arith) (omega arith)
       (rooms-several gate (grows .gates) _ _ (c .gates) 3327 _ _ (omega arith) (b .gates) (omega arith))))
 
 lines-grow : Growing room
 unfolding room
 lines-grow = record { inputs = λ x y h. omega (arith, length-monotone x y h); latches = λ x y h. omega (arith, length-monotone x y h); gates = λ x y h. omega (arith, length-monotone x y h) }
 
-rooms-ceiling : rooms room (kinds ceiling) ≡ 58390
+rooms-ceiling : rooms room (kinds ceiling) ≡ 59030
 unfolding rooms room kinds ceiling several decimal digits
 rooms-ceiling = refl
 
--- the first line behind the four bytes
-pub head-room : (c : Counts) → Bounded c → length (lineText (headNumbers c)) ≤ 21
-unfolding headNumbers endedLine
-head-room c b = simp length-append (omega (
-  arith,
-  length-below 3 (variables c) (omega arith),
-  length-below 2 (c .inputs) (omega arith),
-  length-below 2 (c .latches) (omega arith),
-  length-below 1 (c .lamps) (omega arith),
-  length-below 3 (c .gates) (omega arith),
-))
+-- B and C behind a number of the first line
+further-room : (n b c : ℕ) → b ≤ 64 → c ≤ 64 → length (lineText (n ∷ furtherNumbers b c)) ≤ length (decimal n) + 7
+unfolding endedLine furtherNumbers
+further-room n zero zero p q = simp length-append (omega arith)
+further-room n (suc b) zero p q = simp length-append (omega (arith, length-below 1 (suc b) (omega arith)))
+further-room n zero (suc c) p q = simp length-append (omega (arith, length-below 0 0 (omega arith), length-below 1 (suc c) (omega arith)))
+further-room n (suc b) (suc c) p q = simp length-append (omega (arith, length-below 1 (suc b) (omega arith), length-below 1 (suc c) (omega arith)))
 
-pub text-bound : (c : Counts) (table : List ℕ) → 0 ≡ refusal (circuitTests c table) → length (writeText c table) ≤ 58415
+-- the first line behind the four bytes
+pub head-room : (c : Counts) → Bounded c → length (lineText (headNumbers c)) ≤ 27
+unfolding headNumbers
+head-room c b =
+    let behind = further-room (c .gates) (c .bads) (c .constraints) (b .bads) (b .constraints) in
+    unfold endedLine in simp length-append (omega (
+      arith,
+      behind,
+      length-below 3 (variables c) (omega arith),
+      length-below 2 (c .inputs) (omega arith),
+      length-below 2 (c .latches) (omega arith),
+      length-below 1 (c .lamps) (omega arith),
+      length-below 3 (c .gates) (omega arith),
+    ))
+
+pub text-bound : (c : Counts) (table : List ℕ) → 0 ≡ refusal (circuitTests c table) → length (writeText c table) ≤ 59061
 unfolding writeOpened
 text-bound c table e =
     let k : Taken c table = taken c table e in
@@ -133,6 +144,6 @@ wordsBy each (k ∷ ks) = each k ++ wordsBy each ks
 pub longestTable : List ℕ
 longestTable = wordsBy longest (kinds ceiling)
 
-pub bound-reached : (0 ≡ refusal (circuitTests ceiling longestTable)) × (length (writeText ceiling longestTable) ≡ 58415)
-unfolding refusal circuitTests ceilingTests wordTests allHold tableTests rowTests literalTests operandTests width ceiling kinds several longest wordsBy longestTable writeOpened headNumbers writeRows lineOf numbers shown endedLine decimal digits
+pub bound-reached : (0 ≡ refusal (circuitTests ceiling longestTable)) × (length (writeText ceiling longestTable) ≡ 59061)
+unfolding refusal circuitTests ceilingTests wordTests allHold tableTests rowTests literalTests operandTests width ceiling kinds several longest wordsBy longestTable writeOpened headNumbers furtherNumbers writeRows lineOf numbers shown endedLine decimal digits
 bound-reached = (refl, refl)

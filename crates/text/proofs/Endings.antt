@@ -9,12 +9,13 @@ use Rattle.text.specs.Part.{got, ill}
 use Rattle.text.specs.Decimal.{isDigit}
 use Rattle.text.specs.Line.{newline, officeNewline, space, strip, prepend, splitLine, endedLine}
 use Rattle.text.specs.Outcome.{accepted}
-use Rattle.text.specs.Text.{headNumbers, firstLine, header, endingOf, Content, readText}
+use Rattle.text.specs.Text.{firstLine, header, endingOf, Content, readText}
 use Rattle.text.proofs.Parts.{by-part}
 use Rattle.text.proofs.Numerals.{noDigit, decimal-read}
 use Rattle.text.proofs.Lines.{Short, Proper, newline-proper, number-more, number-other, strip-front}
 use Rattle.text.proofs.Tables.{taken}
-use Rattle.text.proofs.Grammar.{Describes, head-fits, described-header, described-read, read-describes}
+use Rattle.text.proofs.Heads.{heads-fit}
+use Rattle.text.proofs.Grammar.{Describes, described-header, described-read, read-describes}
 
 -- byte 10, or bytes 13 and 10
 pub data LineEnding : List ℕ → Type 0 where
@@ -50,11 +51,11 @@ pub ending-is : (t : List ℕ) → LineEnding (endingOf t)
 ending-is t = by-part (header newline t) (λ ns r e. rw (ending-plain t e) byNewline) (λ e. rw (ending-office t e) byOffice)
 
 pub ending-described : {ending t : List ℕ} {c : Content} → LineEnding ending → Describes ending t c → endingOf t ≡ ending
-unfolding firstLine strip headNumbers
+unfolding firstLine strip
 ending-described {t = t} byNewline d = ending-plain t (described-header newline-proper d)
 ending-described {t = t} {c = c} byOffice d =
-    let f = head-fits (c .counts) (taken (c .counts) (c .words) (d .legal) .bounded) in
-    ending-office t (rw (d .text) (line-apart 5 (headNumbers (c .counts)) (d .body) (omega arith) (f .0)))
+    let f = heads-fit (d .heads) (taken (c .counts) (c .words) (d .legal) .bounded) in
+    ending-office t (rw (d .text) (line-apart 9 (d .head) (d .body) (f .some) (f .short)))
 
 -- ---- accepted exactly when so written, with one ending throughout
 

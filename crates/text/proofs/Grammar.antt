@@ -4,25 +4,23 @@ use mathlib.Core.Bool.{true, false≢true}
 use mathlib.Core.List.{List, [], _∷_, _++_}
 use Prim.Native.Nat.{ℕ, _≤_, _<_}
 use native.Mathlib.Omega.{arith}
-use borrow.Author.Tests.{eqb-true, eq-eqb}
-use lib.ListN.{length, getD, drop, length-append}
-use Rattle.three.specs.Lists.{tabulate}
+use lib.ListN.{length, drop, length-append}
 use Rattle.circuit.specs.declared.Counts.{Counts}
 use Rattle.circuit.specs.Refusal.{refusal}
 use Rattle.circuit.specs.RulesInCode.{Passed, Bounded}
-use Rattle.circuit.specs.Table.{variables, top, tableLength, Kind, kinds, width, rowTests, tableTests, circuitTests}
+use Rattle.circuit.specs.Table.{top, tableLength, Kind, kinds, width, rowTests, tableTests, circuitTests}
 use Rattle.text.specs.Part.{got, ill}
 use Rattle.text.specs.Line.{endedLine, strip}
 use Rattle.text.specs.Outcome.{accepted, onward}
-use Rattle.text.specs.Text.{magic, headNumbers, words, shownOwn, lineTests, ends, Lines, readLines, firstLine, header, countsOf, headerTests, Content, circuitLines, readEnded}
+use Rattle.text.specs.Text.{magic, words, shownOwn, lineTests, ends, Lines, readLines, firstLine, header, countsOf, Content, circuitLines, readEnded}
 use Rattle.text.proofs.Parts.{by-part}
 use Rattle.circuit.proofs.Refusals.{passed-append, passed-refusal}
 use Rattle.text.proofs.Outcomes.{append-passed, accepted-same}
 use Rattle.text.proofs.Lines.{front-strip, Short, line-split, split-line, strip-front, Proper}
+use Rattle.text.proofs.Heads.{Heads, heads-fit, head-bounded, head-shows}
 use Rattle.text.proofs.Steps.{end-fits, line-fits, LineRead, line-accepted, header-fits, header-accepted, line-numbered}
 use Rattle.text.proofs.Tables.{size, size-kinds, Owned, owned-kinds, Taken, taken, taken-refusal}
-use Rattle.circuit.proofs.Legality.{passed-bounded, bounded-passed}
-use Rattle.text.proofs.Spelling.{Spelled, Seen, spelled, listed, seen, length-words, drop-words, rules-words}
+use Rattle.text.proofs.Spelling.{Spelled, Seen, spelled, seen, length-words, drop-words, rules-words}
 
 -- A text with one line for each kind, in order, and these words; then the text r
 pub data Says (ending r : List ℕ) : List Kind → List ℕ → List ℕ → Type 0 where
@@ -39,8 +37,10 @@ pub record Describes (ending t : List ℕ) (c : Content) : Type 0 where
   pub short : length t ≤ 60000
   pub legal : 0 ≡ refusal (circuitTests (c .counts) (c .words))
   pub whole : length (c .words) ≡ tableLength (c .counts)
+  pub head : List ℕ
+  pub heads : Heads (c .counts) head
   pub body : List ℕ
-  pub text : t ≡ magic ++ (endedLine ending (headNumbers (c .counts)) ++ body)
+  pub text : t ≡ magic ++ (endedLine ending head ++ body)
   pub rest : List ℕ
   pub says : Says ending rest (kinds (c .counts)) (c .words) body
   pub closes : Closing ending rest
@@ -65,27 +65,23 @@ unfolding ends
 closing-ends ending done = refl
 closing-ends ending (noted t) = rw (ends, strip-front (99 ∷ ending) t)
 
--- the first line's numbers
-pub head-fits : (c : Counts) → Bounded c → Short (headNumbers c) × Passed (headerTests (headNumbers c))
-unfolding headNumbers headerTests countsOf
-head-fits c b = (omega arith, (refl, (eq-eqb (variables c) (variables c) refl, bounded-passed c b)))
+pub header-back : (opening : List ℕ) {ending : List ℕ} → Proper ending → {c : Counts} {ns : List ℕ} → Heads c ns → Bounded c → (body : List ℕ)
+    → firstLine opening ending (opening ++ (endedLine ending ns ++ body)) ≡ got ns body
+unfolding firstLine
+header-back opening {ending} proper {ns = ns} h b body = let f = heads-fit h b in rw (firstLine, strip-front opening _) (line-split ending proper 9 ns body (f .some) (f .few) (f .short))
 
-pub header-back : (opening : List ℕ) {ending : List ℕ} → Proper ending → (c : Counts) → Bounded c → (body : List ℕ)
-    → firstLine opening ending (opening ++ (endedLine ending (headNumbers c) ++ body)) ≡ got (headNumbers c) body
-unfolding firstLine headNumbers
-header-back opening {ending} proper c b body = rw (firstLine, strip-front opening _) (line-split ending proper 5 (headNumbers c) body (omega arith) (omega arith) (head-fits c b .0))
-
-pub described-header : {ending t : List ℕ} {c : Content} → Proper ending → (d : Describes ending t c) → header ending t ≡ got (headNumbers (c .counts)) (d .body)
-described-header {c = c} proper d = rw (d .text) (header-back magic proper (c .counts) (taken (c .counts) (c .words) (d .legal) .bounded) (d .body))
+pub described-header : {ending t : List ℕ} {c : Content} → Proper ending → (d : Describes ending t c) → header ending t ≡ got (d .head) (d .body)
+described-header {c = c} proper d = rw (d .text) (header-back magic proper (d .heads) (taken (c .counts) (c .words) (d .legal) .bounded) (d .body))
 
 pub described-read : {ending t : List ℕ} {c : Content} → Proper ending → Describes ending t c → readEnded ending t ≡ accepted c
-unfolding headNumbers countsOf onward
+unfolding onward
 described-read {ending} {t} {c} proper d =
     let n : Counts = c .counts in
     let k : Taken n (c .words) = taken n (c .words) (d .legal) in
-    let b = k .bounded in
-    let f = head-fits n b in
-    header-fits magic ending (circuitLines ending) t (d .short) (described-header proper d) (passed-refusal _ (f .1)) ∙ rw (end-fits ending (says-read proper (top n) (omega arith) (owned-kinds n) (d .says) (k .rules) .1) (closing-ends ending (d .closes)))
+    let f = heads-fit (d .heads) (k .bounded) in
+    header-fits magic ending (circuitLines ending) t (d .short) (described-header proper d) (passed-refusal _ (f .passes))
+    ∙ rw (f .counts, end-fits ending (says-read proper (top n) (omega arith) (owned-kinds n) (d .says) (k .rules) .1) (closing-ends ending (d .closes)))
+    (ap (λ (m : Counts). accepted (record { counts = m; words = c .words })) (f .counts))
 
 -- ---- what is read describes a circuit
 
@@ -117,29 +113,27 @@ unfolding readLines size tableTests
 read-body ending most [] t a = rw (← (accepted-same a)) (record { says = stop; sized = refl; rules = tt })
 read-body ending most (k ∷ ks) t a = let f = line-accepted ending (lineTests most) k ks t (line-numbered most k) a in body-line f (read-body ending most ks (f .behind) (f .on))
 
--- the first line is made of the counts in it
-pub head-counts : (ns : List ℕ) → Passed (headerTests ns) → ns ≡ headNumbers (countsOf ns)
-unfolding headerTests countsOf headNumbers tabulate
-head-counts ns p = listed 5 ns (eqb-true (length ns) 5 (p .0)) ∙ rw (eqb-true (getD ns 0 0) (variables (countsOf ns)) (p .1 .0))
-
-pub header-text : (opening ending t : List ℕ) {ns r : List ℕ} → firstLine opening ending t ≡ got ns r → t ≡ opening ++ (endedLine ending ns ++ r)
+-- A first line that is read
+pub header-text : (opening ending t : List ℕ) {ns r : List ℕ} → firstLine opening ending t ≡ got ns r → (t ≡ opening ++ (endedLine ending ns ++ r)) × (length ns ≤ 9)
 unfolding firstLine
 header-text opening ending t a = by-part (strip opening t)
-    (λ u s e. front-strip opening t s e ∙ ap (λ x. opening ++ x) (split-line ending 5 (rw (firstLine, e) at a) .text))
-    (λ e. let z : ill ≡ got _ _ = rw (firstLine, e) at a in cc)
+    (λ u s e. let o = split-line ending 9 (rw (firstLine, e) at a) in (front-strip opening t s e ∙ ap (λ x. opening ++ x) (o .text), o .few))
+    (λ e. let z : ill ≡ got _ _ = rw (firstLine, e) at a in let no : _≡_ {A = ℕ} 0 1 = cc in absurd (omega arith))
 
 pub read-describes : (ending t : List ℕ) {c : Content} → readEnded ending t ≡ accepted c → Describes ending t c
-unfolding headerTests
 read-describes ending t a =
     let h = header-accepted magic ending (circuitLines ending) t a in
     let n : Counts = countsOf (h .numbers) in
     let b = read-body ending (top n) (kinds n) (h .behind) (h .on) in
+    let first = header-text magic ending t (h .split) in
     rw (← (h .gives)) (record {
       short = h .short;
-      legal = taken-refusal (record { bounded = passed-bounded n (h .passes .1 .1); long = omega (arith, size-kinds n); rules = b .rules });
+      legal = taken-refusal (record { bounded = head-bounded (h .numbers) (h .passes); long = omega (arith, size-kinds n); rules = b .rules });
       whole = b .sized ∙ size-kinds n;
+      head = h .numbers;
+      heads = head-shows (h .numbers) (first .1) (h .passes);
       body = h .behind;
-      text = header-text magic ending t (h .split) ∙ ap (λ x. magic ++ (endedLine ending x ++ h .behind)) (head-counts (h .numbers) (h .passes));
+      text = first .0;
       rest = h .lines .rest;
       says = b .says;
       closes = ends-closing ending _ (h .closed);

@@ -3,6 +3,7 @@ pub mod Outcomes
 pub mod Decimals
 pub mod Numerals
 pub mod Lines
+pub mod Heads
 pub mod Tables
 pub mod Steps
 pub mod Numbers

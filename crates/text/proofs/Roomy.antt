@@ -16,7 +16,7 @@ use Rattle.text.proofs.RoundTrip.{Kept, Carries, kept-carries}
 
 -- the words of the largest circuit: 2 for each latch, 1 for each lamp, 2 for each gate
 abbrev pub mostWords : ℕ
-mostWords = 7742
+mostWords = 7870
 
 -- An outcome that is a circuit, and a table that opens with it
 pub record Read (o : Outcome Content) (counts : Counts) (table : List ℕ) : Type 0 where

@@ -13,9 +13,10 @@ use Rattle.circuit.specs.Table.{top, tableLength, Kind, input, latch, literal, 
 use Rattle.circuit.proofs.Refusals.{passed-append}
 use Rattle.circuit.specs.RulesInCode.{Bounded, Passed}
 use Rattle.text.specs.Outcome.{accepted}
-use Rattle.text.specs.Text.{numbers, lineOf, writeRows, writeOpened, writeText, Content, readText}
+use Rattle.text.specs.Text.{numbers, headNumbers, lineOf, writeRows, writeOpened, writeText, Content, readText}
 use Rattle.text.specs.Calls.{Reading, Writing}
 use Rattle.text.proofs.Tables.{size, size-kinds, Due, Owned, owned-kinds, Taken, taken, taken-refusal}
+use Rattle.text.proofs.Heads.{written-heads}
 use Rattle.text.proofs.Grammar.{Says, stop, line, done, Describes}
 use Rattle.text.proofs.Endings.{byNewline, described, describes}
 use Rattle.text.proofs.Spelling.{Spelled, shown-spelled, inputLine, lampLine, gateLine}
@@ -128,6 +129,8 @@ module _ (c : Counts) (table : List ℕ) (legal : 0 ≡ refusal (circuitTests c 
         short = omega (arith, text-bound c table legal);
         legal = taken-refusal (taken-words c table k);
         whole = length-take-le (tableLength c) table (k .long);
+        head = headNumbers c;
+        heads = written-heads c;
         body = writeRows lineOf (kinds c) table;
         text = refl;
         rest = [];

@@ -12,7 +12,7 @@ use Rattle.circuit.specs.Table.{Kind}
 use Rattle.text.specs.Decimal.{digits, decimal}
 use Rattle.text.specs.Line.{newline, officeNewline, endedLine}
 use Rattle.text.specs.Outcome.{accepted}
-use Rattle.text.specs.Text.{endingOf, Content, readText, headNumbers}
+use Rattle.text.specs.Text.{endingOf, Content, readText}
 use Rattle.text.proofs.Grammar.{Says, stop, line, Closing, done, noted, Describes}
 use Rattle.text.proofs.Endings.{byOffice, described, describes}
 
@@ -57,12 +57,14 @@ saved-closing (noted t) = noted (saved t)
 
 saved-describes : {t : List ℕ} {c : Content} → length (saved t) ≤ 60000 → Describes newline t c → Describes officeNewline (saved t) c
 unfolding saved
-saved-describes {c = c} short d = record {
+saved-describes short d = record {
   short = short;
   legal = d .legal;
   whole = d .whole;
+  head = d .head;
+  heads = d .heads;
   body = saved (d .body);
-  text = ap saved (d .text) ∙ rw (saved-append, saved-append, saved-line (headNumbers (c .counts)));
+  text = ap saved (d .text) ∙ rw (saved-append, saved-append, saved-line (d .head));
   rest = saved (d .rest);
   says = saved-says (d .says);
   closes = saved-closing (d .closes);

@@ -15,7 +15,7 @@ use Rattle.circuit.proofs.Refusals.{Numbered, stops, past, none}
 use Rattle.text.specs.Part.{got, ill}
 use Rattle.text.specs.Line.{readLine}
 use Rattle.text.specs.Outcome.{Outcome, accepted, refused, tested, further, onward}
-use Rattle.text.specs.Text.{magic, inFront, lineTests, ends, Lines, readLines, firstLine, countsOf, headerTests, Content, readOpened, endingOf, readText}
+use Rattle.text.specs.Text.{magic, inFront, lineTests, ends, Lines, readLines, firstLine, countsOf, countTests, headerTests, Content, readOpened, endingOf, readText}
 use Rattle.text.proofs.Parts.{by-part}
 use Rattle.text.proofs.Outcomes.{tested-stops, tested-past, refused-accepted, tested-accepted, further-accepted, onward-accepted}
 
@@ -128,7 +128,7 @@ pub record HeaderRead (opening ending : List ℕ) (read : Read) (t : List ℕ) (
   pub gives : content numbers lines ≡ c
 
 pub header-accepted : (opening ending : List ℕ) (read : Read) (t : List ℕ) {c : Content} → readOpened opening ending read t ≡ accepted c → HeaderRead opening ending read t c
-unfolding readOpened headerTests ceilingTests
+unfolding readOpened headerTests countTests ceilingTests
 header-accepted opening ending read t a =
     let s = tested-accepted (leb (length t) 60000 or 1 ∷ []) _ (omega arith) a in
     by-part (firstLine opening ending t)

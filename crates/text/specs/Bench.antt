@@ -6,12 +6,13 @@ use Prim.Native.Nat.{ℕ}
 use Prim.Native.String.{String}
 use Prim.Native.Char.{code}
 use lib.Dec.{eqb}
+use Rattle.circuit.specs.declared.Counts.{Counts}
 use Rattle.circuit.specs.Refusal.{refusal}
-use Rattle.circuit.specs.Table.{ceilingTests, several, kinds, rowTests, literalTests, operandTests}
+use Rattle.circuit.specs.Table.{plainCounts, ceilingTests, several, kinds, rowTests, literalTests, operandTests}
 use Rattle.text.specs.Decimal.{isDigit, mayGrow, readOn, readNumber}
 use Rattle.text.specs.Line.{strip, prepend, splitLine}
 use Rattle.text.specs.Outcome.{Outcome, accepted, refused, tested, further, onward}
-use Rattle.text.specs.Text.{fits, owns, resetWord, words, lineTests, ends, readLines, firstLine, countsOf, headerTests, Content, readOpened, endingOf, readText}
+use Rattle.text.specs.Text.{fits, owns, resetWord, words, lineTests, ends, readLines, firstLine, countsOf, countTests, headerTests, Content, readOpened, endingOf, readText}
 
 -- the document's way to show a text: `/` for byte 10
 unfoldable pub bytes : String → List ℕ
@@ -28,13 +29,17 @@ infix 68 _is_
 abbrev pub _is_ : String → ℕ → Case
 t is n = record { text = t; outcome = refused n }
 
--- `says t i l o a ws`: t is read as these counts and words
+-- t is read as these counts and words
+abbrev pub shows : String → Counts → List ℕ → Case
+shows t c ws = record { text = t; outcome = accepted (record { counts = c; words = ws }) }
+
+-- `says t i l o a ws`: the same without bad states and constraints
 abbrev pub says : String → ℕ → ℕ → ℕ → ℕ → List ℕ → Case
-says t i l o a ws = record { text = t; outcome = accepted (record { counts = record { inputs = i; latches = l; lamps = o; gates = a }; words = ws }) }
+says t i l o a ws = shows t (plainCounts i l o a) ws
 
 -- readText, all of it open to computation
 unfoldable pub outcomeOf : List ℕ → Outcome Content
-unfolding refusal ceilingTests several kinds rowTests literalTests operandTests isDigit mayGrow readOn readNumber strip prepend splitLine tested further onward fits owns resetWord words lineTests ends readLines firstLine countsOf headerTests readOpened endingOf readText
+unfolding refusal ceilingTests several kinds rowTests literalTests operandTests isDigit mayGrow readOn readNumber strip prepend splitLine tested further onward fits owns resetWord words lineTests ends readLines firstLine countsOf countTests headerTests readOpened endingOf readText
 outcomeOf t = readText t
 
 -- each text has its outcome

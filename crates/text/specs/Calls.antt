@@ -7,7 +7,7 @@ use lib.ListN.{length}
 use Rattle.three.specs.Lists.{over}
 use Rattle.circuit.specs.declared.Counts.{Counts}
 use Rattle.circuit.specs.Refusal.{Test, _or_, refusal, leftBy}
-use Rattle.circuit.specs.Table.{tableLength, circuitTests}
+use Rattle.circuit.specs.Table.{plainCounts, tableLength, circuitTests}
 use Rattle.text.specs.Outcome.{Outcome, numberOf, further, leaves}
 use Rattle.text.specs.Text.{Content, readText, writeText}
 
@@ -21,9 +21,9 @@ readInto text table = intoTable table (readText text)
 
 -- a refusal returns zeros beside its number
 abbrev pub zeros : Counts
-zeros = record { inputs = 0; latches = 0; lamps = 0; gates = 0 }
+zeros = plainCounts 0 0 0 0
 
--- What a reader leaves by an outcome: its number, I, L, O and A, and the table at exit. A refusal changes no word; words beyond stay.
+-- What a reader leaves by an outcome: its number, the counts, and the table at exit. A refusal changes no word; words beyond stay.
 pub record ReadBy (o : Outcome Content) (table : List ℕ) (number : ℕ) (counts : Counts) (table′ : List ℕ) : Type 0 where
   pub answers : number ≡ numberOf o
   pub returns : counts ≡ leaves (λ c. c .counts) zeros o

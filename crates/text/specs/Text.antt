@@ -16,9 +16,15 @@ use Rattle.text.specs.Outcome.{Outcome, accepted, refused, tested, furth
 abbrev pub magic : List ℕ
 magic = 97 ∷ 97 ∷ 103 ∷ 32 ∷ []
 
--- M I L O A
+-- B and C, up to the last that is not 0
+unfoldable pub furtherNumbers : ℕ → ℕ → List ℕ
+furtherNumbers zero zero = []
+furtherNumbers (suc b) zero = suc b ∷ []
+furtherNumbers b (suc c) = b ∷ suc c ∷ []
+
+-- M I L O A, then those
 unfoldable pub headNumbers : Counts → List ℕ
-headNumbers c = variables c ∷ c .inputs ∷ c .latches ∷ c .lamps ∷ c .gates ∷ []
+headNumbers c = variables c ∷ c .inputs ∷ c .latches ∷ c .lamps ∷ c .gates ∷ furtherNumbers (c .bads) (c .constraints)
 
 -- ---- writing
 
@@ -103,21 +109,32 @@ readLines ending tests (k ∷ ks) t = elim (readLine ending t) [
   | got ns rest ↦ tested (tests k ns) (onward (inFront k ns) (readLines ending tests ks rest))
 ]
 
--- the numbers of a first line that opens with these bytes
+-- the numbers of a first line that opens with these bytes: M I L O A B C J F, the last four optional
 unfoldable pub firstLine : List ℕ → List ℕ → List ℕ → Part (List ℕ)
-firstLine opening ending t = elim (strip opening t) [ got u r ↦ splitLine ending 5 r | ill ↦ ill ]
+firstLine opening ending t = elim (strip opening t) [ got u r ↦ splitLine ending 9 r | ill ↦ ill ]
 
 -- those of the first line
 abbrev pub header : List ℕ → List ℕ → Part (List ℕ)
 header ending t = firstLine magic ending t
 
--- I, L, O and A among them
+-- the counts among them; one that is left off is 0
 unfoldable pub countsOf : List ℕ → Counts
-countsOf ns = record { inputs = getD ns 1 0; latches = getD ns 2 0; lamps = getD ns 3 0; gates = getD ns 4 0 }
+countsOf ns = record {
+  inputs = getD ns 1 0;
+  latches = getD ns 2 0;
+  lamps = getD ns 3 0;
+  gates = getD ns 4 0;
+  bads = getD ns 5 0;
+  constraints = getD ns 6 0;
+}
+
+-- 2, then 3 for J, F and the counts
+unfoldable pub countTests : List ℕ → List Test
+countTests ns = leb 5 (length ns) or 2 ∷ eqb (getD ns 7 0) 0 or 3 ∷ eqb (getD ns 8 0) 0 or 3 ∷ ceilingTests (countsOf ns)
 
 -- 2, then 3 for the first line's numbers
 unfoldable pub headerTests : List ℕ → List Test
-headerTests ns = eqb (length ns) 5 or 2 ∷ eqb (getD ns 0 0) (variables (countsOf ns)) or 3 ∷ ceilingTests (countsOf ns)
+headerTests ns = countTests ns ++ (eqb (getD ns 0 0) (variables (countsOf ns)) or 3 ∷ [])
 
 -- What a text says: a circuit's counts, and its words
 pub record Content : Type 0 where

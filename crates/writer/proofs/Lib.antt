@@ -1,4 +1,5 @@
 pub mod WrittenLine
+pub mod FirstLine
 pub mod DigitCounts
 pub mod WrittenLines
 pub mod WrittenText

@@ -1,23 +1,19 @@
--- Laws of one written line: its text and its length by how many numbers it has, its numbers by its kind, and the first line. Assumes nothing.
-use mathlib.Core.Path.{_≡_, refl, sym, ap, _∙_}
+-- Laws of one written line: its text and its length by how many numbers it has, its numbers by its kind. Assumes nothing.
+use mathlib.Core.Path.{_≡_, refl, ap, _∙_}
 use mathlib.Core.List.{List, [], _∷_, _++_, append-assoc}
 use Prim.Native.Nat.{ℕ, zero, suc, _+_, _≤_, _<_}
 use native.Mathlib.Nat.{add-zero}
 use native.Mathlib.Omega.{arith}
-use lib.ListN.{length, length-append, getD, drop, set, length-set}
-use lib.Seq.{getD-drop, sets}
-use Rattle.three.specs.Lists.{tabulate}
-use Rattle.circuit.specs.declared.Counts.{Counts}
-use Rattle.circuit.specs.Table.{variables, width}
+use lib.ListN.{length, length-append, getD, drop}
+use lib.Seq.{getD-drop}
+use Rattle.circuit.specs.Table.{width}
 use Rattle.writer.specs.declared.LineNumbers.{LineNumbers}
 use Rattle.text.specs.Decimal.{decimal}
 use Rattle.text.specs.Line.{newline, space, lineText, endedLine}
-use Rattle.text.specs.Text.{headNumbers, shown, numbers, lineOf}
+use Rattle.text.specs.Text.{shown, numbers, lineOf}
 use Rattle.text.specs.KindsInCode.{coded}
 use Rattle.text.proofs.Coding.{width-two, coded-gate}
-use Rattle.text.proofs.Spelling.{listed}
-use Rattle.putting.specs.PutInCode.{Put}
-use Rattle.writer.specs.WriterInCode.{andMore, lineNumbers, countNumbers, LatchLine, Shows}
+use Rattle.writer.specs.WriterInCode.{andMore, lineNumbers, LatchLine, Shows}
 
 -- ---- by how many numbers it has
 
@@ -110,27 +106,3 @@ module _ (own : ℕ) (words : List ℕ) (at : ℕ) where
       → Shows lineOf k own words at (record { more = 2; first = own; second = getD words at 0; third = getD words (at + 1) 0; words = 2 })
   unfolding andMore lineOf numbers
   shows-gate k fits left right f g h = record { row = record { same = rw (coded-gate k own f g h, word-first, word-second); width = width-two k own f h }; small = omega arith }
-
--- ---- the first line
-
-module _ (c : Counts) where
-  pub counts-text : lineText (countNumbers c) ≡ ((word (c .inputs) 32 ++ word (c .latches) 32) ++ word (c .lamps) 32) ++ word (c .gates) 10
-  unfolding endedLine countNumbers
-  counts-text = simp append-assoc
-
-  pub counts-length : length (lineText (countNumbers c)) ≡ 4 + length (decimal (c .inputs)) + length (decimal (c .latches)) + length (decimal (c .lamps)) + length (decimal (c .gates))
-  unfolding endedLine countNumbers
-  counts-length = simp length-append (omega arith)
-
-  pub head-text : (opening : List ℕ) → opening ++ lineText (headNumbers c) ≡ (opening ++ word (variables c) 32) ++ lineText (countNumbers c)
-  unfolding endedLine headNumbers countNumbers
-  head-text opening = simp append-assoc
-
-  pub head-length : length (lineText (headNumbers c)) ≡ 1 + length (decimal (variables c)) + length (lineText (countNumbers c))
-  unfolding endedLine headNumbers countNumbers
-  head-length = simp length-append (omega arith)
-
--- the four bytes in front of it
-pub four-put : (d m : List ℕ) → length m ≡ 4 → Put d 0 m (set (set (set (set d 0 (getD m 0 0)) 1 (getD m 1 0)) 2 (getD m 2 0)) 3 (getD m 3 0)) 4
-unfolding tabulate
-four-put d m h = record { same = ap (λ (l : List ℕ). sets d 0 l) (sym (listed 4 m h)); after = omega arith; long = simp length-set }

@@ -9,7 +9,7 @@ use Rattle.circuit.specs.RulesInCode.{Bounded}
 use Rattle.writer.specs.declared.LineNumbers.{LineNumbers}
 use Rattle.text.specs.KindsInCode.{coded}
 use Rattle.text.specs.Line.{lineText}
-use Rattle.text.specs.Text.{shown, writeRows}
+use Rattle.text.specs.Text.{furtherNumbers, shown, writeRows}
 
 -- the first number, and so many more
 unfoldable pub andMore : ℕ → ℕ → ℕ → ℕ → List ℕ
@@ -21,15 +21,24 @@ andMore (suc (suc n)) a b c = a ∷ b ∷ c ∷ []
 abbrev pub lineNumbers : LineNumbers → List ℕ
 lineNumbers l = andMore (l .more) (l .first) (l .second) (l .third)
 
--- I L O A, which follow M
+-- A, and B and C where they are written
+unfoldable pub lastNumbers : Counts → List ℕ
+lastNumbers c = c .gates ∷ furtherNumbers (c .bads) (c .constraints)
+
+-- I L O and those, which follow M
 unfoldable pub countNumbers : Counts → List ℕ
-countNumbers c = c .inputs ∷ c .latches ∷ c .lamps ∷ c .gates ∷ []
+countNumbers c = c .inputs ∷ c .latches ∷ c .lamps ∷ lastNumbers c
 
 -- a line's numbers, each of at most four digits
 pub record Small (line : LineNumbers) : Type 0 where
   pub first : line .first < 10000
   pub second : line .second < 10000
   pub third : line .third < 10000
+
+-- the last counts, as a line's numbers
+pub record LastCounts (c : Counts) (line : LineNumbers) : Type 0 where
+  pub text : lineText (lineNumbers line) ≡ lineText (lastNumbers c)
+  pub small : Small line
 
 -- a table's first n words, each of at most four digits
 abbrev pub SmallWords : List ℕ → ℕ → Type 0

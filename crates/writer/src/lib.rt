@@ -6,18 +6,18 @@ use text::LAMP_LINE;
 use text::LATCH_LINE;
 use text::MAGIC;
 ghost use mathlib.Core.Path.{_≡_};
-ghost use Prim.Native.Nat.{_≤_, _<_, _+_, _*_};
+ghost use Prim.Native.Nat.{ℕ, _≤_, _<_, _+_, _*_};
 ghost use lib.ListN.{length};
 ghost use mathlib.Core.List.{_++_, [], _∷_};
 ghost use Rattle.circuit.specs.RulesInCode.{Bounded};
 ghost use Rattle.circuit.specs.Table.{width};
 ghost use Rattle.text.specs.Decimal.{decimal};
 ghost use Rattle.text.specs.Line.{lineText};
-ghost use Rattle.text.specs.Text.{magic as plainMagic, headNumbers, shown, lineOf, writeText};
+ghost use Rattle.text.specs.Text.{magic as plainMagic, furtherNumbers, headNumbers, shown, lineOf, writeText};
 ghost use Rattle.text.specs.Calls.{Writing};
 ghost use Rattle.text.specs.KindsInCode.{coded};
 ghost use Rattle.putting.specs.PutInCode.{Put};
-ghost use Rattle.writer.specs.WriterInCode.{lineNumbers, countNumbers, Small, SmallWords, LatchLine, Shows, block, Lines, Writable};
+ghost use Rattle.writer.specs.WriterInCode.{andMore, lineNumbers, countNumbers, LastCounts, Small, SmallWords, LatchLine, Shows, block, Lines, Writable};
 
 // The four bytes that a file opens with.
 fn put_magic(text: &mut [u8], magic: &[u8; 4]) -> usize
@@ -151,18 +151,46 @@ fn put_lines(
     end
 }
 
-// I L O A, and the newline.
+// How many counts stand behind A: B and C only up to the last that is not 0.
+fn further_counts(bads: usize, constraints: usize) -> usize
+    ensures { λ r. ⌜ ((gates : ℕ) → andMore r gates bads constraints ≡ gates ∷ furtherNumbers bads constraints) ⌝ }
+{
+    if constraints != 0 {
+        return 2;
+    }
+    if bads != 0 {
+        return 1;
+    }
+    0
+}
+
+// A, and those behind it.
+fn last_counts(counts: Counts) -> LineNumbers
+    requires { ⌜ Bounded counts ⌝ }
+    ensures { λ r. ⌜ LastCounts counts r ⌝ }
+{
+    LineNumbers {
+        more: further_counts(counts.bads, counts.constraints),
+        first: counts.gates,
+        second: counts.bads,
+        third: counts.constraints,
+        words: 0,
+    }
+}
+
+// I L O A, B and C where they are written, and the newline.
 fn put_counts(text: &mut [u8], at: usize, counts: Counts) -> usize
     requires { ⌜ Bounded counts × (at + length (lineText (countNumbers counts)) ≤ length (now text)) ⌝ }
     ensures { λ r. ⌜ Put (now (text .entry)) at (lineText (countNumbers counts)) (now (text .exit)) r ⌝ }
 {
+    let last = last_counts(counts);
     let latches = putting::put_word(text, at, counts.inputs, 32);
     let lamps = putting::put_word(text, latches, counts.latches, 32);
     let gates = putting::put_word(text, lamps, counts.lamps, 32);
-    putting::put_word(text, gates, counts.gates, 10)
+    put_line(text, gates, last)
 }
 
-// Then M I L O A and a newline.
+// Then M, the counts and a newline.
 pub fn put_first_line(text: &mut [u8], magic: &[u8; 4], counts: Counts) -> usize
     requires { ⌜ (length (now magic) ≡ 4) × Bounded counts × (4 + length (lineText (headNumbers counts)) ≤ length (now text)) ⌝ }
     ensures { λ r. ⌜ Put (now (text .entry)) 0 (now (magic .entry) ++ lineText (headNumbers counts)) (now (text .exit)) r ⌝ }
@@ -185,7 +213,7 @@ fn put_header(text: &mut [u8], counts: Counts) -> usize
     put_first_line(text, &magic, counts)
 }
 
-// Then one line for each input, latch, lamp and gate, in that order.
+// Then one line for each input, latch, lamp, bad state, constraint and gate, in that order.
 fn put_text(text: &mut [u8], counts: Counts, table: &[u16]) -> usize
     requires { ⌜ Writable counts (now table) (writeText counts (now table)) (length (now text)) ⌝ }
     ensures { λ r. ⌜ Put (now (text .entry)) 0 (writeText counts (now (table .entry))) (now (text .exit)) r ⌝ }
@@ -266,7 +294,7 @@ fn count_lines(start: usize, kind: u8, own: usize, count: usize, table: &[u16], 
     end
 }
 
-// The four bytes, the five numbers, and a byte behind each.
+// The four bytes, the numbers, and a byte behind each.
 pub fn header_length(counts: Counts) -> usize
     requires { ⌜ Bounded counts ⌝ }
     ensures { λ r. ⌜ r ≡ 4 + length (lineText (headNumbers counts)) ⌝ }
@@ -275,8 +303,7 @@ pub fn header_length(counts: Counts) -> usize
     let inputs = digits(counts.inputs);
     let latches = digits(counts.latches);
     let lamps = digits(counts.lamps);
-    let gates = digits(counts.gates);
-    9 + variables + inputs + latches + lamps + gates
+    8 + variables + inputs + latches + lamps + line_length(last_counts(counts))
 }
 
 fn text_length(counts: Counts, table: &[u16]) -> usize

@@ -1,6 +1,6 @@
 -- `writer::put_first_line` meets its contract: the four bytes, M, and the counts behind it. Assumes nothing.
 use Rattle.putting.proofs.Putting.{put-then}
-use Rattle.writer.proofs.WrittenLine.{head-text, head-length}
+use Rattle.writer.proofs.FirstLine.{head-text, head-length}
 use native.Mathlib.Omega.{arith}
 use Rattle.writer.proofs.put_first_line.Statement.{statement}
 use Rattle.writer.proofs.put_first_line.Tie as tie

@@ -2,7 +2,7 @@
 use native.Mathlib.Omega.{arith}
 use lib.ListN.{length-set}
 use borrow.Author.Needs.{needs}
-use Rattle.writer.proofs.WrittenLine.{four-put}
+use Rattle.writer.proofs.FirstLine.{four-put}
 use Rattle.writer.proofs.put_magic.Statement.{statement}
 use Rattle.writer.proofs.put_magic.Tie as tie
 
