@@ -13,7 +13,7 @@ use Rattle.circuit.specs.Table.{top, literalsAt, gatesAt, circuitOf}
 use Rattle.circuit.specs.RulesInCode.{Legal}
 use Rattle.circuit.proofs.Fixed.{Falling, falling}
 use Rattle.cubes.specs.Run.{switchesUnknown, lampsIn}
-use Rattle.cubes.proofs.Cover.{lamps-sized}
+use Rattle.cubes.proofs.Reading.{lamps-sized}
 use Rattle.asked.specs.Follow.{gateAt, firstGate, valuesIn}
 use Rattle.asked.specs.AskedInCode.{gateIn}
 use Rattle.asked.specs.Call.{lampIn, lampLiteral}
@@ -55,7 +55,7 @@ module _ (c : Counts) (words : List ℕ) where
     literal-word = getD-tabulate (c .lamps) _ lamp 0 h
 
     pub literal-within : Legal c words → lampLiteral (circuitOf c words) lamp ≤ top c
-    literal-within legal = rw literal-word (legal .literal lamp h)
+    literal-within legal = rw literal-word (legal .literal lamp (omega arith))
 
     -- its value is its literal's
     pub lamp-read : (state : Cube) → lampIn (circuitOf c words) state lamp ≡ value ternary (valuesIn (circuitOf c words) state) (lampLiteral (circuitOf c words) lamp)

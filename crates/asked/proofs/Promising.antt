@@ -13,7 +13,7 @@ use Rattle.circuit.specs.declared.Counts.{Counts}
 use Rattle.circuit.specs.Circuit.{Circuit, lamps}
 use Rattle.circuit.specs.Table.{circuitOf}
 use Rattle.circuit.proofs.Refusals.{accepted-new}
-use Rattle.cubes.proofs.Cover.{lamps-within, known-at}
+use Rattle.cubes.proofs.Reading.{lamps-within, known-at}
 use Rattle.asked.specs.Call.{lampIn, lampLiteral, whyFields, WhyGiven, Explained}
 use Rattle.asked.specs.Promise.{circuitIn, stateIn, Enough, Suffices}
 use Rattle.asked.proofs.Circuits.{latch-count, gate-count, first-gate, legal-falling, literal-within, lamp-read}

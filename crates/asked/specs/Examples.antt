@@ -26,7 +26,7 @@ abbrev asks : Counts → List ℕ → List ℕ → ℕ → WhyGiven
 asks c table state lamp = record { counts = c; table = table; state = state; lamp = lamp; why = 255 ∷ 7 ∷ [] }
 
 abbrev counts : ℕ → ℕ → ℕ → ℕ → Counts
-counts i l o a = record { inputs = i; latches = l; lamps = o; gates = a }
+counts i l o a = record { inputs = i; latches = l; lamps = o; gates = a; bads = 0; constraints = 0 }
 
 -- S `aag 3 0 2 1 1/2 4/4 2 1/6/6 4 2/`, whose gate reads latch 1 first. At 1 both are kept; at 0 latch 1 where it is 0, else latch 0; X is 24, a pair 11 is 14, no byte is 10
 abbrev s-asks : List ℕ → ℕ → WhyGiven

@@ -31,7 +31,7 @@ module _ {ending : List ℕ} (text : List ℕ) (decided : endingOf text ≡ endi
   pub own-fillable : length own ≡ 88 → 0 ≡ refusal (smallTests c) → Fillable (circuitLines ending c) text (stand (kinds c) at 0 own)
   own-fillable long none =
       let s = is-small c none in
-      let fits : tableLength c ≤ length own = omega (arith, s .inputs, s .latches, s .lamps, s .gates) in
+      let fits : tableLength c ≤ length own = omega (arith, s .latches, s .lamps, s .gates, s .bads, s .constraints) in
       body-fillable text decided here own fits
 
   module _ {filled : List ℕ} (f : filled ≡ over words own) where

@@ -19,7 +19,7 @@ ghost use Rattle.beginners.specs.Rules.{smallTests, varies, wellFed, feedTests}
 ghost use Rattle.beginners.specs.Calls.{ReadingBeginners, chainBeginnersTests, ChainedBeginners};
 ghost use Rattle.beginners.specs.Promise.{AlsoRead, AlwaysCloses};
 
-// At most 4 switches, 8 latches, 8 lamps, 32 gates.
+// At most 4 switches, 8 latches, 8 lamps, 32 gates, no bad state and no constraint.
 const MOST_INPUTS: usize = 4;
 
 const MOST_LATCHES: usize = 8;
@@ -34,7 +34,7 @@ const LEAST_CUBE_BYTES: usize = 19683;
 
 const MOST_CUBE_BYTES: usize = 65536;
 
-// 25 for counts over the beginners' ceilings; 0 for none.
+// 25 for counts over the beginners' ceilings, and for B or C not 0; 0 for none.
 fn small_refusal(counts: Counts) -> u32
     ensures { λ r. ⌜ r ≡ refusal (smallTests counts) ⌝ }
 {
@@ -48,6 +48,12 @@ fn small_refusal(counts: Counts) -> u32
         return 25;
     }
     if counts.gates > MOST_GATES {
+        return 25;
+    }
+    if counts.bads != 0 {
+        return 25;
+    }
+    if counts.constraints != 0 {
         return 25;
     }
     0
@@ -66,7 +72,7 @@ fn nexts_vary(table: &[u16], count: usize) -> bool
     true
 }
 
-// No lamp's literal is constant.
+// No literal of a line of one is constant.
 fn literals_vary(table: &[u16], at: usize, count: usize) -> bool
     requires { ⌜ at + count ≤ length (now table) ⌝ }
     ensures { λ r. ⌜ r ≡ every count (λ i. varies (getD (now (table .entry)) (at + i) 0)) ⌝ }

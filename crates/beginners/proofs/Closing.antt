@@ -19,6 +19,7 @@ use Rattle.cubes.specs.Chain.{roomIn, storedCubes, backTo, outcomeNumber, chain
 use Rattle.cubes.proofs.StoredCube.{some-bytes, few-bytes, all-fit}
 use Rattle.cubes.proofs.Buffered.{latches-counted}
 use Rattle.cubes.proofs.Closes.{ClosesWithin}
+use Rattle.cubes.proofs.Chaining.{closing}
 use Rattle.cubes.proofs.Unwidened.{plain-closes}
 use Rattle.beginners.specs.Rules.{beginnersTests}
 use Rattle.beginners.specs.RulesInCode.{Small}
@@ -98,6 +99,7 @@ module _ (g : BoardGiven) (r : ChainAnswer) (cubes : List ℕ) (chained : Chaine
   pub always-closes : AlwaysCloses g r cubes
   always-closes = record {
     closes = λ ok. within ok .is-closed ∙ ap₂ stops (sym (n-is ok ∙ says ok .0)) (sym (j-is ok ∙ says ok .1));
+    never-ends = λ ok. closing (unwidened g) r cubes (is-chain ok) .closed (chained .answers ∙ ok) (accepted ok .small .constraints);
     few = λ ok. omega (arith, n-is ok ∙ says ok .0, within ok .few);
     chains = is-chain;
   }

@@ -4,7 +4,7 @@ use mathlib.Core.Bool.{Bool, true, false, not}
 use mathlib.Core.List.{List, [], _∷_}
 use Prim.Native.Nat.{ℕ, _+_, _*_, _/_, _<_, _≤_}
 use native.Mathlib.Omega.{arith}
-use borrow.Author.Tests.{leb-true, le-leb, lt-leb}
+use borrow.Author.Tests.{leb-true, le-leb, lt-leb, eqb-true, eq-eqb}
 use lib.Dec.{eqb}
 use lib.ListN.{length, getD, drop, List·getD-append}
 use Rattle.three.specs.Lists.{every, over}
@@ -31,7 +31,7 @@ module _ (c : Counts) where
 
   passed-small : Passed (smallTests c) → Small c
   unfolding smallTests
-  passed-small p = omega (arith, leb-true)
+  passed-small p = omega (arith, leb-true, eqb-true)
 
   pub is-small : 0 ≡ refusal (smallTests c) → Small c
   is-small e = passed-small (passes (smallTests c) small-numbered e)
@@ -41,7 +41,7 @@ module _ (c : Counts) where
 
   pub small-passes : Small c → 0 ≡ refusal (smallTests c)
   unfolding smallTests
-  small-passes s = passed-refusal (smallTests c) (le-leb _ _ (s .inputs), (le-leb _ _ (s .latches), (le-leb _ _ (s .lamps), (le-leb _ _ (s .gates), tt))))
+  small-passes s = passed-refusal (smallTests c) (le-leb _ _ (s .inputs), (le-leb _ _ (s .latches), (le-leb _ _ (s .lamps), (le-leb _ _ (s .gates), (eq-eqb _ 0 (s .bads), (eq-eqb _ 0 (s .constraints), tt))))))
 
 -- ---- a gate
 

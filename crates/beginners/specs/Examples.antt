@@ -6,11 +6,11 @@ use Prim.Native.String.{String}
 use Rattle.three.specs.Lists.{every, over}
 use Rattle.circuit.specs.declared.Counts.{Counts}
 use Rattle.circuit.specs.Refusal.{refusal, allHold}
-use Rattle.circuit.specs.Table.{ceilingTests, lampTests, several, kinds, width, rowTests, tableTests, literalTests, operandTests, wordTests, boardTests}
+use Rattle.circuit.specs.Table.{plainCounts, ceilingTests, lampTests, several, kinds, width, rowTests, tableTests, literalTests, operandTests, wordTests, boardTests}
 use Rattle.text.specs.Decimal.{isDigit, mayGrow, readOn, readNumber}
 use Rattle.text.specs.Line.{strip, prepend, splitLine}
 use Rattle.text.specs.Outcome.{numberOf, tested, further, onward, leaves}
-use Rattle.text.specs.Text.{fits, owns, resetWord, words, lineTests, ends, readLines, firstLine, countsOf, headerTests, readOpened, endingOf, readText}
+use Rattle.text.specs.Text.{fits, owns, resetWord, words, lineTests, ends, readLines, firstLine, countsOf, countTests, headerTests, readOpened, endingOf, readText}
 use Rattle.text.specs.Calls.{intoTable}
 use Rattle.text.specs.Bench.{bytes}
 use Rattle.cubes.specs.Buffer.{cubeBytes}
@@ -19,7 +19,7 @@ use Rattle.beginners.specs.Calls.{readBeginners, bufferTests, chainBegin
 
 -- the number, and the table at exit
 unfoldable pub reads : String → List ℕ → List ℕ
-unfolding every over refusal ceilingTests several kinds rowTests literalTests operandTests isDigit mayGrow readOn readNumber strip prepend splitLine numberOf tested further onward leaves fits owns resetWord words lineTests ends readLines firstLine countsOf headerTests readOpened endingOf readText intoTable bytes smallTests varies wellFed feedTests beginnersTests readBeginners
+unfolding every over refusal ceilingTests several kinds rowTests literalTests operandTests isDigit mayGrow readOn readNumber strip prepend splitLine numberOf tested further onward leaves fits owns resetWord words lineTests ends readLines firstLine countsOf countTests headerTests readOpened endingOf readText intoTable bytes smallTests varies wellFed feedTests beginnersTests readBeginners
 reads text table = numberOf (readBeginners (bytes text) table) ∷ leaves (λ c. over (c .words) table) table (readBeginners (bytes text) table)
 
 unfoldable pub answers : Counts → List ℕ → ℕ → ℕ
@@ -38,6 +38,13 @@ pub accepts : (reads "aag 1 0 1 1 0/2 3/2/" (9 ∷ 9 ∷ 9 ∷ 9 ∷ []) ≡ 0 �
     × (reads "aag 3 2 0 1 1/2/4/6/6 4 2/" (9 ∷ 9 ∷ 9 ∷ []) ≡ 0 ∷ 6 ∷ 4 ∷ 2 ∷ [])
 unfolding reads
 accepts = (refl, refl, refl, refl)
+
+-- a bad state; a constraint; neither, though the first line shows both
+pub constrained : (reads "aag 1 1 0 1 0 1/2/2/2/" (9 ∷ 9 ∷ []) ≡ 25 ∷ 9 ∷ 9 ∷ [])
+    × (reads "aag 1 1 0 1 0 0 1/2/2/2/" (9 ∷ 9 ∷ []) ≡ 25 ∷ 9 ∷ 9 ∷ [])
+    × (reads "aag 1 1 0 1 0 0 0/2/2/" (9 ∷ 9 ∷ []) ≡ 0 ∷ 2 ∷ 9 ∷ [])
+unfolding reads
+constrained = (refl, refl, refl)
 
 -- a constant lamp, 0 and 1; a constant next literal; a constant operand; one variable twice, as it is and inverted; a fifth switch; a ninth lamp
 pub refuses : (reads "aag 0 0 0 1 0/0/" (9 ∷ []) ≡ 25 ∷ 9 ∷ [])
@@ -58,22 +65,32 @@ pub reads-in-order : (reads "aag 0 0 0 1 0/0/" [] ≡ 10 ∷ [])
 unfolding reads
 reads-in-order = (refl, refl, refl)
 
--- counts I, L, O and A
-abbrev board : ℕ → ℕ → ℕ → ℕ → Counts
-board i l o a = record { inputs = i; latches = l; lamps = o; gates = a }
+-- one switch, no latch and no gate: O, B and C
+abbrev watching : ℕ → ℕ → ℕ → Counts
+watching o b c = record { inputs = 1; latches = 0; lamps = o; gates = 0; bads = b; constraints = c }
+
+-- a bad state alone is 25, not 16, and a constraint alone 16; 10 and 11 before 25
+pub watches-in-order : (answers (watching 0 1 0) (2 ∷ []) 19683 ≡ 25)
+    × (answers (watching 1 0 1) (2 ∷ 2 ∷ []) 19683 ≡ 25)
+    × (answers (watching 0 0 1) (2 ∷ []) 19683 ≡ 16)
+    × (answers (watching 0 1 0) [] 19683 ≡ 10)
+    × (answers (watching 0 1 0) (4 ∷ []) 19683 ≡ 11)
+    × (answers (watching 0 65 0) [] 19683 ≡ 3)
+unfolding answers
+watches-in-order = (refl, refl, refl, refl, refl, refl)
 
 -- T with the smallest buffer and the largest, and one byte less and more, and with none; 25 before 13, 11 before 25, 10 before 11, 16 before 10, 3 before 16
-pub runs-in-order : (answers (board 0 1 1 0) (3 ∷ 0 ∷ 2 ∷ []) 19683 ≡ 0)
-    × (answers (board 0 1 1 0) (3 ∷ 0 ∷ 2 ∷ []) 65536 ≡ 0)
-    × (answers (board 0 1 1 0) (3 ∷ 0 ∷ 2 ∷ []) 19682 ≡ 13)
-    × (answers (board 0 1 1 0) (3 ∷ 0 ∷ 2 ∷ []) 65537 ≡ 13)
-    × (answers (board 0 1 1 0) (3 ∷ 0 ∷ 2 ∷ []) 0 ≡ 13)
-    × (answers (board 0 1 1 0) (3 ∷ 0 ∷ 1 ∷ []) 0 ≡ 25)
-    × (answers (board 1 0 1 1) (2 ∷ 3 ∷ 2 ∷ []) 19683 ≡ 25)
-    × (answers (board 5 0 1 0) (2 ∷ []) 0 ≡ 25)
-    × (answers (board 0 1 1 0) (1 ∷ 0 ∷ 4 ∷ []) 0 ≡ 11)
-    × (answers (board 0 1 1 0) (1 ∷ 3 ∷ []) 0 ≡ 10)
-    × (answers (board 5 1 0 0) [] 0 ≡ 16)
-    × (answers (board 257 0 0 0) [] 0 ≡ 3)
+pub runs-in-order : (answers (plainCounts 0 1 1 0) (3 ∷ 0 ∷ 2 ∷ []) 19683 ≡ 0)
+    × (answers (plainCounts 0 1 1 0) (3 ∷ 0 ∷ 2 ∷ []) 65536 ≡ 0)
+    × (answers (plainCounts 0 1 1 0) (3 ∷ 0 ∷ 2 ∷ []) 19682 ≡ 13)
+    × (answers (plainCounts 0 1 1 0) (3 ∷ 0 ∷ 2 ∷ []) 65537 ≡ 13)
+    × (answers (plainCounts 0 1 1 0) (3 ∷ 0 ∷ 2 ∷ []) 0 ≡ 13)
+    × (answers (plainCounts 0 1 1 0) (3 ∷ 0 ∷ 1 ∷ []) 0 ≡ 25)
+    × (answers (plainCounts 1 0 1 1) (2 ∷ 3 ∷ 2 ∷ []) 19683 ≡ 25)
+    × (answers (plainCounts 5 0 1 0) (2 ∷ []) 0 ≡ 25)
+    × (answers (plainCounts 0 1 1 0) (1 ∷ 0 ∷ 4 ∷ []) 0 ≡ 11)
+    × (answers (plainCounts 0 1 1 0) (1 ∷ 3 ∷ []) 0 ≡ 10)
+    × (answers (plainCounts 5 1 0 0) [] 0 ≡ 16)
+    × (answers (plainCounts 257 0 0 0) [] 0 ≡ 3)
 unfolding answers
 runs-in-order = (refl, refl, refl, refl, refl, refl, refl, refl, refl, refl, refl, refl)

@@ -10,9 +10,11 @@ use Rattle.circuit.specs.declared.Counts.{Counts}
 use Rattle.circuit.specs.Refusal.{Test, _or_}
 use Rattle.circuit.specs.Table.{literals, literalsAt, gatesAt}
 
--- at most 4 switches, 8 latches, 8 lamps, 32 gates
+-- at most 4 switches, 8 latches, 8 lamps, 32 gates, B and C both 0
 unfoldable pub smallTests : Counts → List Test
-smallTests c = leb (c .inputs) 4 or 25 ∷ leb (c .latches) 8 or 25 ∷ leb (c .lamps) 8 or 25 ∷ leb (c .gates) 32 or 25 ∷ []
+smallTests c =
+    leb (c .inputs) 4 or 25 ∷ leb (c .latches) 8 or 25 ∷ leb (c .lamps) 8 or 25 ∷ leb (c .gates) 32 or 25
+    ∷ eqb (c .bads) 0 or 25 ∷ eqb (c .constraints) 0 or 25 ∷ []
 
 -- a literal that is not constant: neither 0 nor 1
 unfoldable pub varies : ℕ → Bool

@@ -28,6 +28,7 @@ use Rattle.stored.specs.CubesInCode.{raisedBytes, keptBytes, SwitchesX}
 use Rattle.stored.proofs.Raising.{front-byte, raised-packed}
 use Rattle.stored.proofs.Keeping.{length-kept}
 use Rattle.chain.specs.ChainInCode.{widenedBytes, heldAfter, Advanced}
+use Rattle.chain.proofs.Keeping.{held-long}
 use Rattle.chain.proofs.Chaining.{Going, flags-sized, Reached, reach-sized}
 
 module _ (c : Counts) (words : List ℕ) (w : ℕ) (buffer : List ℕ) {count : ℕ} {held state cubes values : List ℕ} (g : Going c words w buffer count held state cubes values)
@@ -55,7 +56,7 @@ module _ (c : Counts) (words : List ℕ) (w : ℕ) (buffer : List ℕ) {count : 
       wider e = heldAfter e len held state b
 
       same-size : length (here .cube) ≡ length (reached circuit here)
-      same-size = unfold cubeAt in cubes-sized c words w (g .last) ∙ sym (reach-sized c words w buffer g b reach)
+      same-size = unfold cubeAt in cubes-sized c words w (g .last) ∙ sym (reach-sized c words w buffer g)
 
       go : (e : Bool) → getD (wider e) i 0 ≡ heldByte (widened e here (reached circuit here)) i
       go false = unfold heldAfter widened in g .holding i l
@@ -98,6 +99,7 @@ module _ (c : Counts) (words : List ℕ) (w : ℕ) (buffer : List ℕ) {count : 
         ∙ stored-more size (marked w) (cubeAt circuit w) (cubes-sized c words w) buffer count (raisedBytes len (code (known d)) (after .last)) record-next room
         ∙ ap (λ (n : ℕ). over (packCubes (marked w) (cubeAt circuit w) n) buffer) (sym (advanced .counts ∙ rw add-one));
     holding = λ i l. held-next i l ∙ ap (λ (s : Stage). heldByte (s .held) i) (sym stage-next);
+    broad = ap length (advanced .holds) ∙ held-long d len held state b (omega (arith, g .broad, few-bytes few)) ∙ g .broad;
     wide = ap length (advanced .keeps) ∙ length-paste state 0 _ len (omega (arith, g .wide, few-bytes few)) (omega (arith, length-kept len (after .held) b)) ∙ g .wide;
     lasting = last-next;
     ready = r;

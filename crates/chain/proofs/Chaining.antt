@@ -5,35 +5,32 @@ use mathlib.Core.List.{List, append-nil, flatten}
 use Prim.Native.Nat.{ℕ, suc, _+_, _*_, _<_, _≤_}
 use native.Mathlib.Nat.{one-mul}
 use native.Mathlib.Omega.{arith}
-use lib.ListN.{length, getD, replicate, length-append, length-drop, getD-replicate}
+use lib.ListN.{length, getD, replicate, length-append, length-drop, length-replicate, getD-replicate}
 use lib.Seq.{paste}
-use Rattle.three.specs.Lists.{tabulate, over, first}
+use Rattle.three.specs.Lists.{tabulate, over}
 use Rattle.three.specs.Value.{code, known}
-use Rattle.three.specs.Cube.{Cube, subsumes}
+use Rattle.three.specs.Cube.{Cube}
 use Rattle.three.specs.Record.{bytesFor, byteAt, pack, unpack}
 use Rattle.three.specs.RecordInCode.{IsRecord}
-use Rattle.three.proofs.First.{first-ext}
 use Rattle.three.proofs.Lists.{getD-tabulate}
 use Rattle.three.proofs.Pack.{length-pack}
 use Rattle.circuit.specs.declared.Counts.{Counts}
 use Rattle.circuit.specs.Circuit.{Circuit}
 use Rattle.circuit.specs.Table.{circuitOf}
-use Rattle.cubes.specs.Run.{nextCube, start, Stage, reached, stage, cubeAt, at, stops, full, stepped, back, run}
+use Rattle.cubes.specs.Run.{nextCube, blocked, start, Stage, reached, stage, cubeAt, full, run}
 use Rattle.cubes.specs.Buffer.{cubeBytes, packCubes, packCube, marked}
 use Rattle.cubes.specs.BufferInCode.{longestCube}
 use Rattle.cubes.proofs.Wider.{reached-sized}
 use Rattle.cubes.proofs.Growing.{held-sized}
 use Rattle.cubes.proofs.Merging.{length-over}
-use Rattle.cubes.proofs.First.{search-first}
-use Rattle.cubes.proofs.Steps.{run-step}
+use Rattle.cubes.proofs.Steps.{run-begins}
 use Rattle.cubes.proofs.Buffered.{latches-counted, cubes-sized}
 use Rattle.cubes.proofs.StoredCube.{few-bytes, latch-bytes}
 use Rattle.cubes.proofs.Raised.{Marked}
-use Rattle.cubes.proofs.Marks.{sought-mark, cube-covers}
 use Rattle.cubes.proofs.Held.{Bytes, HeldBytes, packed-byte, padded-byte, bytes-read, bytes-record, bytes-kept, none-held}
 use Rattle.cubes.proofs.Storing.{records-sized, stored-bytes}
-use Rattle.stored.specs.CubesInCode.{startFields, raisedBytes, keptBytes, coversFrom, SwitchesX}
-use Rattle.stored.proofs.Raising.{front-byte, raised-bytes}
+use Rattle.stored.specs.CubesInCode.{startFields, keptBytes, SwitchesX}
+use Rattle.stored.proofs.Raising.{front-byte}
 use Rattle.stored.proofs.Keeping.{length-kept}
 use Rattle.stored.proofs.Starting.{start-fields, start-sized}
 
@@ -47,7 +44,7 @@ module _ (c : Counts) (words : List ℕ) (w : ℕ) (buffer : List ℕ) where
   abbrev len : ℕ
   len = cubeBytes (c .latches)
 
-  -- so many cubes are stored, none of them closes the run, these latches are held, and these are the latches of the last cube
+  -- so many cubes are stored, none of them stops the run, these latches are held, and these are the latches of the last cube
   pub record Going (count : ℕ) (held state cubes values : List ℕ) : Type 0 where
     pub last : ℕ
     pub counts : count ≡ suc last
@@ -55,6 +52,7 @@ module _ (c : Counts) (words : List ℕ) (w : ℕ) (buffer : List ℕ) where
     pub open-yet : run circuit w last ≡ full
     pub stored : cubes ≡ over (packCubes (marked w) (cubeAt circuit w) count) buffer
     pub holding : HeldBytes len held (stage circuit w last .held)
+    pub broad : length held ≡ longestCube
     pub wide : length state ≡ longestCube
     pub lasting : Bytes len (λ i. getD state i 0) (cubeAt circuit w last)
     pub ready : SwitchesX c values
@@ -62,16 +60,17 @@ module _ (c : Counts) (words : List ℕ) (w : ℕ) (buffer : List ℕ) where
   pub flags-sized : (k : ℕ) → length (stage circuit w k .held) ≡ size
   flags-sized k = held-sized circuit w k ∙ latches-counted c words
 
-  pub going-first : (state cubes values : List ℕ) → size ≤ 512 → len ≤ length buffer → state ≡ over (pack (startFields words (c .latches))) (replicate longestCube 0)
+  pub going-first : blocked circuit (start circuit) ≡ false → (state cubes values : List ℕ) → size ≤ 512 → len ≤ length buffer → state ≡ over (pack (startFields words (c .latches))) (replicate longestCube 0)
       → cubes ≡ over (packCube false (startFields words (c .latches))) buffer → SwitchesX c values → Going 1 (replicate longestCube 0) state cubes values
-  unfolding run stage cubeAt
-  going-first state cubes values few room es e r = record {
+  unfolding stage cubeAt
+  going-first free state cubes values few room es e r = record {
     last = 0;
     counts = refl;
     fits = omega (arith, one-mul len);
-    open-yet = refl;
+    open-yet = run-begins circuit w free;
     stored = e ∙ ap (λ (v : Cube). over (packCube false v) buffer) (sym (start-fields c words)) ∙ ap (λ (l : List ℕ). over l buffer) (sym first-record);
     holding = λ i h. getD-replicate {A = ℕ} longestCube i 0 0 (omega (arith, few-bytes few)) ∙ sym (none-held (circuit .latches) i);
+    broad = length-replicate {A = ℕ} longestCube 0;
     wide = ap length es ∙ length-over _ (replicate longestCube 0) (rw (length-pack, start-sized words (c .latches)) (omega (arith, few-bytes few, latch-bytes size)));
     lasting = λ i h. ap (λ (l : List ℕ). getD l i 0) es ∙ padded-byte (startFields words (c .latches)) i longestCube ∙ ap (λ (v : Cube). byteAt v i) (sym (start-fields c words));
     ready = r;
@@ -121,29 +120,5 @@ module _ (c : Counts) (words : List ℕ) (w : ℕ) (buffer : List ℕ) where
     abbrev pub Reached : List ℕ → Type 0
     Reached b = Bytes len (λ i. getD b i 0) (reached circuit here)
 
-    module _ (b : List ℕ) (reach : Reached b) where
-      pub reach-sized : length (reached circuit here) ≡ size
-      reach-sized = reached-sized circuit here ∙ latches-counted c words
-
-      -- the byte-wise search is the run's
-      covering : (k : ℕ) → k < count → coversFrom len cubes (raisedBytes len 3 b) (k * len) ≡ subsumes (cubeAt circuit w k) (reached circuit here)
-      unfolding coversFrom
-      covering k h =
-          cube-covers _ _ _ _ _ _ (cubes-sized c words w k) reach-sized (sought-mark (known (marked w k))) (cube-bytes k h) (raised-bytes len 3 b size refl (reached circuit here) reach)
-
-      abbrev sought : ℕ
-      sought = first count (λ k. coversFrom len cubes (raisedBytes len 3 b) (k * len))
-
-      looked : sought ≡ first (suc (g .last)) (λ k. subsumes (cubeAt circuit w k) (reached circuit here))
-      looked = first-ext count _ _ covering ∙ ap (λ (n : ℕ). first n (λ k. subsumes (cubeAt circuit w k) (reached circuit here))) (g .counts)
-
-      pub closes-at : (j : ℕ) → j ≡ sought → j < count → run circuit w count ≡ stops count j
-      unfolding back stepped
-      closes-at j e h =
-          let j= : first (suc (g .last)) (λ k. subsumes (cubeAt circuit w k) (reached circuit here)) ≡ j = sym looked ∙ sym e in
-          rw (g .counts) (run-step circuit w (g .last) (g .open-yet) (search-first (cubeAt circuit w) (reached circuit here) (suc (g .last)) .0 (omega (arith, g .counts)) ∙ ap at j=))
-
-      pub goes-on : (j : ℕ) → j ≡ sought → count ≤ j → run circuit w count ≡ full
-      unfolding back stepped
-      goes-on j e h =
-          rw (g .counts) (run-step circuit w (g .last) (g .open-yet) (search-first (cubeAt circuit w) (reached circuit here) (suc (g .last)) .1 (omega (arith, looked, g .counts))))
+    pub reach-sized : length (reached circuit here) ≡ size
+    reach-sized = reached-sized circuit here ∙ latches-counted c words

@@ -1,4 +1,4 @@
--- The loop that follows the chain: what each call asks and gives, and the two ways out. Assumes nothing.
+-- The loop that follows the chain: what each call asks and gives, and the ways out. Assumes nothing.
 use mathlib.Core.Path.{_≡_, refl, ap, _∙_}
 use mathlib.Core.Bool.{true, false}
 use mathlib.Core.List.{List}
@@ -13,13 +13,15 @@ use Rattle.three.specs.RecordInCode.{IsRecord}
 use Rattle.circuit.specs.declared.Counts.{Counts}
 use Rattle.circuit.specs.Table.{circuitOf}
 use Rattle.chain.specs.declared.Progress.{Progress}
-use Rattle.cubes.specs.Run.{due, nextCube, stops, full, run}
+use Rattle.cubes.specs.Run.{due, nextCube, blocked, stage, stops, full, run}
+use Rattle.cubes.specs.Run as Run
 use Rattle.stored.specs.CubesInCode.{raisedBytes, keptBytes, coversFrom, SwitchesX}
 use Rattle.cubes.specs.Chain.{roomIn, storedCubes, backTo}
-use Rattle.chain.specs.ChainInCode.{Advanced, ChainMade, Followable}
+use Rattle.chain.specs.ChainInCode.{goneTo, Advanced, ChainMade, Followable}
 use Rattle.cubes.specs.OutcomesInCode.{hasStopped}
 use Rattle.stored.proofs.Keeping.{length-kept}
-use Rattle.chain.proofs.Chaining.{Going, Reached, same-length, all-fits, last-record, reached-b, closes-at, goes-on, going-first}
+use Rattle.chain.proofs.Chaining.{Going, Reached, same-length, all-fits, last-record, reached-b, going-first}
+use Rattle.chain.proofs.Stopping.{b-record, b-read, stops-at, goes-on}
 use Rattle.chain.proofs.Advancing.{going-next}
 use Rattle.cubes.specs.Buffer.{cubeBytes}
 use Rattle.cubes.specs.BufferInCode.{longestCube}
@@ -56,8 +58,17 @@ module _ (c : Counts) (words : List ℕ) (w len room : ℕ) (start buffer : List
     pub kept-length : length cubes ≡ length buffer
     kept-length = same-length c words w buffer g
 
+    some-byte : 1 ≤ len
+    some-byte = omega (arith, f .size, cube-some (c .latches))
+
+    pub count-within : count ≤ 65536
+    count-within = omega (arith, mul-le-mul-right count some-byte, mul-comm count len, one-mul count, cubes-fit, kept-length, f .small)
+
     pub state-record : IsRecord (c .latches) state
     state-record = last-record c words w buffer g few-latches
+
+    pub held-room : cubeBytes (c .latches) ≤ length held
+    held-room = omega (arith, few-bytes, f .size, g .broad)
 
     -- what `reach` leaves
     pub reached : (b′ : List ℕ) → b′ ≡ paste b 0 (keptBytes (cubeBytes (c .latches)) held (pack (nextCube (circuitOf c words) (unpack (c .latches) state)))) (cubeBytes (c .latches)) → Reached c words w buffer g b′
@@ -67,31 +78,37 @@ module _ (c : Counts) (words : List ℕ) (w len room : ℕ) (start buffer : List
     reached-long next b′ e =
         ap length e ∙ length-paste b 0 _ (cubeBytes (c .latches)) (omega (arith, few-bytes, f .size, t .long)) (omega (arith, length-kept (cubeBytes (c .latches)) held next)) ∙ t .long
 
-    module _ (b′ : List ℕ) (r : Reached c words w buffer g b′) (back : ℕ) (sought : back ≡ first count (λ k. coversFrom len cubes (raisedBytes len 3 b′) (k * len))) where
-      sought′ : back ≡ first count (λ k. coversFrom (cubeBytes (c .latches)) cubes (raisedBytes (cubeBytes (c .latches)) 3 b′) (k * cubeBytes (c .latches)))
-      sought′ = rw (f .size) at sought
+    -- b as a record of latches
+    pub reached-record : (b′ : List ℕ) → Reached c words w buffer g b′ → length b′ ≡ longestCube → IsRecord (c .latches) b′
+    reached-record b′ r long′ = b-record c words w buffer g b′ r few-latches long′
 
-      -- the run is closed
-      pub closed-now : back < count → ChainMade c words w buffer (record { stopped = true; count = count; back = back }) cubes
+    module _ (b′ : List ℕ) (r : Reached c words w buffer g b′) (long′ : length b′ ≡ longestCube) (back : ℕ)
+        (sought : back ≡ goneTo (blocked (circuitOf c words) (unpack (c .latches) b′)) count (first count (λ k. coversFrom len cubes (raisedBytes len 3 b′) (k * len)))) where
+      gone : back ≡ goneTo (blocked (circuitOf c words) (Run.reached (circuitOf c words) (stage (circuitOf c words) w (g .last)))) count
+          (first count (λ k. coversFrom (cubeBytes (c .latches)) cubes (raisedBytes (cubeBytes (c .latches)) 3 b′) (k * cubeBytes (c .latches))))
+      gone = rw (f .size, b-read c words w buffer g b′ r few-latches long′) at sought
+
+      -- the run is closed, or ended
+      pub stopped-now : back ≤ count → ChainMade c words w buffer (record { stopped = true; count = count; back = back }) cubes × (1 ≤ count)
       unfolding storedCubes hasStopped backTo
-      closed-now h =
+      stopped-now h =
           let e : run (circuitOf c words) w (roomIn c buffer) ≡ stops count back =
-          rw (← (f .has-room), ← add-sub-of-le (t .within)) (run-stays (circuitOf c words) w count (room - count) count back (closes-at c words w buffer g b′ r back sought′ h)) in
-          record { closes = rw e; counts = rw e; goes-back = rw e; some = some-cubes; fills = g .stored }
+          rw (← (f .has-room), ← add-sub-of-le (t .within)) (run-stays (circuitOf c words) w count (room - count) count back (stops-at c words w buffer g b′ r gone h)) in
+          (record { closes = rw e; counts = rw e; goes-back = rw e; fills = g .stored }, some-cubes)
 
-      open-yet : count ≤ back → run (circuitOf c words) w count ≡ full
-      open-yet h = goes-on c words w buffer g b′ r back sought′ h
+      open-yet : count < back → run (circuitOf c words) w count ≡ full
+      open-yet h = goes-on c words w buffer g b′ r gone h
 
       -- no room is left
-      pub full-now : count ≤ back → count ≡ room → ChainMade c words w buffer (record { stopped = false; count = count; back = 0 }) cubes
+      pub full-now : count < back → count ≡ room → ChainMade c words w buffer (record { stopped = false; count = count; back = 0 }) cubes × (1 ≤ count)
       unfolding storedCubes hasStopped backTo
       full-now h e =
           let room= : count ≡ roomIn c buffer = e ∙ f .has-room in
           let o : run (circuitOf c words) w (roomIn c buffer) ≡ full = rw (← room=) (open-yet h) in
-          record { closes = rw o; counts = rw (o) room=; goes-back = rw o; some = some-cubes; fills = g .stored }
+          (record { closes = rw o; counts = rw (o) room=; goes-back = rw o; fills = g .stored }, some-cubes)
 
       -- or one cube more is stored
-      module _ (h : count ≤ back) (more : count ≡ room → ⊥) where
+      module _ (h : count < back) (more : count ≡ room → ⊥) where
         pub next-fits : count * len + len ≤ length buffer
         unfolding roomIn
         next-fits =
@@ -100,16 +117,14 @@ module _ (c : Counts) (words : List ℕ) (w len room : ℕ) (start buffer : List
             omega (arith, mul-le-mul-right len below, suc-mul count len)
 
         pub count-small : count < 65536
-        count-small =
-            let some : 1 ≤ len = omega (arith, f .size, cube-some (c .latches)) in
-            omega (arith, mul-le-mul-right count some, mul-comm count len, one-mul count, next-fits, f .small)
+        count-small = omega (arith, some-byte, mul-le-mul-right count some-byte, mul-comm count len, one-mul count, next-fits, f .small)
 
         pub next-fits-now : count * len + len ≤ length cubes
         next-fits-now = omega (arith, next-fits, kept-length)
 
-        pub turn-next : (after : Progress) (cubes′ values′ : List ℕ) → Advanced (due w count) len (record { count = count; held = held; last = state }) cubes b′ after cubes′ → SwitchesX c values′ → length b′ ≡ longestCube
+        pub turn-next : (after : Progress) (cubes′ values′ : List ℕ) → Advanced (due w count) len (record { count = count; held = held; last = state }) cubes b′ after cubes′ → SwitchesX c values′
             → Turn (after .count) (after .held) (after .last) cubes′ values′ b′
-        turn-next after cubes′ values′ a ready long′ = record {
+        turn-next after cubes′ values′ a ready = record {
           given = f;
           going = going-next c words w buffer g b′ r (due w count) refl (open-yet h) after cubes′ (rw (f .size) at a) few-latches values′ ready (rw (f .size) at next-fits);
           within = omega (arith, a .counts, t .within);
@@ -120,7 +135,7 @@ module _ (c : Counts) (words : List ℕ) (w len room : ℕ) (start buffer : List
   unfolding roomIn
   turn-first f values b r l = record {
     given = f;
-    going = going-first c words w buffer start buffer values (f .legal .bounded .latches) (f .one) (f .starts) (f .begun) r;
+    going = going-first c words w buffer (f .free) start buffer values (f .legal .bounded .latches) (f .one) (f .starts) (f .begun) r;
     within = rw (f .has-room) (le-div-iff-mul-le {k = cubeBytes (c .latches)} (cube-some (c .latches)) .1 (omega (arith, one-mul (cubeBytes (c .latches)), f .one)));
     long = l;
   }

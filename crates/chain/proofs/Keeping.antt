@@ -8,7 +8,7 @@ use native.Mathlib.Omega.{arith}
 use lib.Bits.{bitOr, bitXor, and-le-r}
 use lib.Dec.{eqb}
 use lib.ListN.{length, getD, set}
-use lib.Seq.{paste}
+use lib.Seq.{paste, length-paste}
 use Rattle.three.specs.Value.{code, known}
 use Rattle.three.proofs.Loops.{Stored, stored-next, getD-paste}
 use Rattle.three.proofs.Lists.{length-tabulate, getD-tabulate}
@@ -77,3 +77,8 @@ module _ {d : Bool} (len : ℕ) (held a b : List ℕ) where
 
 pub due-held : {d e : Bool} (len : ℕ) (held a b : List ℕ) → d ≡ e → heldAfter d len held a b ≡ heldAfter e len held a b
 due-held len held a b q = ap (λ d. heldAfter d len held a b) q
+
+pub held-long : (d : Bool) (len : ℕ) (held a b : List ℕ) → len ≤ length held → length (heldAfter d len held a b) ≡ length held
+unfolding heldAfter
+held-long true len held a b room = length-paste held 0 _ len (omega arith) (omega (arith, length-wide len held a b))
+held-long false len held a b room = refl

@@ -1,4 +1,4 @@
--- The public chain: what it answers and leaves where it is refused, where there is no room for a cube more, and where it closes. Assumes nothing.
+-- The public chain: what it answers and leaves where it is refused, where there is no room for a cube more, and where it stops, closed or ended. Assumes nothing.
 use mathlib.Core.Path.{_≡_, sym, ap, _∙_}
 use mathlib.Core.Bool.{true, false}
 use mathlib.Core.List.{List}
@@ -47,9 +47,9 @@ module _ (g : ChainGiven) where
           fills-cubes = filled ∙ accepted-new (refusedBy g) _ _ ok;
         }
 
-    pub chain-closed : r .stopped ≡ true → Chained g (record { number = 0; cubes = r .count; back = r .back }) cubes
+    pub chain-stopped : r .stopped ≡ true → Chained g (record { number = 0; cubes = r .count; back = r .back }) cubes
     unfolding outcomeIn circuitIn cubesIn backIn
-    chain-closed h = record {
+    chain-stopped h = record {
       answers = stopped-number (outcomeIn g) (sym (made .closes) ∙ h) ∙ accepted-new (refusedBy g) _ _ ok;
       counts = made .counts ∙ accepted-new (refusedBy g) _ _ ok;
       goes-back = made .goes-back ∙ accepted-new (refusedBy g) _ _ ok;

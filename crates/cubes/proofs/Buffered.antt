@@ -4,17 +4,17 @@ use mathlib.Core.Bool.{true, false, true≢false, false≢true}
 use mathlib.Core.List.{List}
 use Prim.Native.Nat.{ℕ, zero, suc, _+_, _-_, _<_, _≤_}
 use native.Mathlib.Omega.{arith}
-use lib.ListN.{length, length-replicate}
+use lib.ListN.{length, length-append, length-replicate}
 use Rattle.three.specs.Lists.{over}
 use Rattle.three.specs.Cube.{Cube, merged}
 use Rattle.circuit.specs.declared.Counts.{Counts}
 use Rattle.circuit.specs.Circuit.{Circuit, lamps}
-use Rattle.circuit.specs.Table.{circuitOf}
-use Rattle.cubes.specs.Run.{nextCube, lampsIn, cubeAt, Ending, stops, full, run, merge, verdict, settled, mergeFrom}
+use Rattle.circuit.specs.Table.{verdicts, circuitOf}
+use Rattle.cubes.specs.Run.{nextCube, lampsIn, watched, watchedIn, cubeAt, Ending, stops, full, run, merge, verdict, settled, mergeFrom}
 use Rattle.cubes.specs.Buffer.{cubeIn, packCubes, marked}
 use Rattle.cubes.specs.Chain.{storedCubes, backTo, outcomeNumber}
 use Rattle.cubes.specs.OutcomesInCode.{hasStopped}
-use Rattle.cubes.proofs.Steps.{found, Ran, stays, closes, ran}
+use Rattle.cubes.proofs.Steps.{Ran, dead, stays, closes, ran}
 use Rattle.cubes.proofs.Storing.{stored-cube}
 use Rattle.three.proofs.Lists.{length-tabulate}
 use Rattle.cubes.proofs.Wider.{cube-sized, mergeFrom-sized}
@@ -38,17 +38,18 @@ unfolding hasStopped outcomeNumber
 stopped-number (stops n j) e = refl
 stopped-number full e = absurd (false≢true e)
 
--- a closed run goes back to one of its cubes, and its cubes have room
+-- the cubes of a run that stops have room
 module _ (c : Circuit) (w : ℕ) where
-  ran-within : {room n j : ℕ} → Ran c w room (stops n j) → (j < n) × (n ≤ room)
-  ran-within (stays past) = (ran-within past .0, omega (arith, ran-within past .1))
-  ran-within (closes past l) = (found l .0, omega arith)
+  ran-within : {room n j : ℕ} → Ran c w room (stops n j) → n ≤ room
+  ran-within (dead e) = omega arith
+  ran-within (stays past) = omega (arith, ran-within past)
+  ran-within (closes past l) = omega arith
 
-  pub stopped-within : (room : ℕ) → hasStopped (run c w room) ≡ true → (backTo (run c w room) < storedCubes room (run c w room)) × (storedCubes room (run c w room) ≤ room)
-  unfolding hasStopped storedCubes backTo
+  pub stopped-within : (room : ℕ) → hasStopped (run c w room) ≡ true → storedCubes room (run c w room) ≤ room
+  unfolding hasStopped storedCubes
   stopped-within room e = go (run c w room) (ran c w room) e
     where
-      go : (o : Ending) → Ran c w room o → hasStopped o ≡ true → (backTo o < storedCubes room o) × (storedCubes room o ≤ room)
+      go : (o : Ending) → Ran c w room o → hasStopped o ≡ true → storedCubes room o ≤ room
       go (stops n j) r h = ran-within r
       go full r h = absurd (false≢true h)
 
@@ -67,7 +68,7 @@ mergeFrom-same none f f′ base (suc more) same = merge-same f f′ base more (�
 module _ (c : Circuit) (f f′ : ℕ → Cube) (n : ℕ) (same : (k : ℕ) → k < n → f k ≡ f′ k) where
   pub verdict-same : verdict c f n ≡ verdict c f′ n
   unfolding verdict
-  verdict-same = mergeFrom-same _ _ _ 0 n (λ k l h. ap (lampsIn c) (same k (omega arith)))
+  verdict-same = mergeFrom-same _ _ _ 0 n (λ k l h. ap (watchedIn c) (same k (omega arith)))
 
   pub settled-same : (j : ℕ) → settled c f n j ≡ settled c f′ n j
   unfolding settled
@@ -75,7 +76,7 @@ module _ (c : Circuit) (f f′ : ℕ → Cube) (n : ℕ) (same : (k : ℕ) → k
 
 -- ---- the cubes in the buffer
 
--- a field for each lamp, and for each latch
+-- a field for each lamp, for each of what gets a verdict, and for each latch
 pub literals-counted : (c : Counts) (words : List ℕ) → length (circuitOf c words .lamps) ≡ c .lamps
 unfolding circuitOf
 literals-counted c words = length-tabulate (c .lamps) _
@@ -83,6 +84,14 @@ literals-counted c words = length-tabulate (c .lamps) _
 pub lamps-counted : (c : Counts) (words : List ℕ) (v : Cube) → length (lampsIn (circuitOf c words) v) ≡ c .lamps
 unfolding lampsIn circuitOf
 lamps-counted c words v = readings-sized ternary _ _ _ _ ∙ length-tabulate (c .lamps) _
+
+pub verdicts-counted : (c : Counts) (words : List ℕ) → length (watched (circuitOf c words)) ≡ verdicts c
+unfolding watched circuitOf
+verdicts-counted c words = rw length-append (ap₂ _+_ (length-tabulate (c .lamps) _) (length-tabulate (c .bads) _))
+
+pub watched-counted : (c : Counts) (words : List ℕ) (v : Cube) → length (watchedIn (circuitOf c words) v) ≡ verdicts c
+unfolding watchedIn
+watched-counted c words v = readings-sized ternary _ _ _ _ ∙ verdicts-counted c words
 
 pub latches-counted : (c : Counts) (words : List ℕ) → length (circuitOf c words .latches) ≡ c .latches
 unfolding circuitOf
@@ -92,10 +101,10 @@ pub next-counted : (c : Counts) (words : List ℕ) (v : Cube) → length (nextCu
 unfolding nextCube
 next-counted c words v = next-sized ternary (circuitOf c words) _ _ ∙ latches-counted c words
 
-pub verdict-sized : (c : Counts) (words : List ℕ) (cubes : ℕ → Cube) (n : ℕ) → length (verdict (circuitOf c words) cubes n) ≡ c .lamps
+pub verdict-sized : (c : Counts) (words : List ℕ) (cubes : ℕ → Cube) (n : ℕ) → length (verdict (circuitOf c words) cubes n) ≡ verdicts c
 unfolding verdict
 verdict-sized c words cubes n =
-    mergeFrom-sized _ _ (c .lamps) (λ k. lamps-counted c words _) 0 (length-replicate (length (circuitOf c words .lamps)) _ ∙ literals-counted c words) n
+    mergeFrom-sized _ _ (verdicts c) (λ k. watched-counted c words _) 0 (length-replicate (length (watched (circuitOf c words))) _ ∙ verdicts-counted c words) n
 
 pub settled-sized : (c : Counts) (words : List ℕ) (cubes : ℕ → Cube) → ((k : ℕ) → length (cubes k) ≡ c .latches) → (n j : ℕ) → length (settled (circuitOf c words) cubes n j) ≡ c .latches
 unfolding settled

@@ -1,4 +1,4 @@
--- What the contract of the chain says: where it answers 0 a run that closed, its cubes in the buffer; the promise of its count. Assumes nothing.
+-- What the contract of the chain says: where it answers 0 a run that stopped, closed or ended, its cubes in the buffer; the promise of its count. Assumes nothing.
 use mathlib.Core.Path.{_≡_, refl, sym, ap, ap₂, _∙_}
 use mathlib.Core.Bool.{true}
 use mathlib.Core.List.{List}
@@ -18,10 +18,13 @@ use Rattle.cubes.specs.Promise.{mostCubes, Closing}
 use Rattle.cubes.proofs.Storing.{records-sized, stored-sound}
 use Rattle.cubes.proofs.Given.{cubes-fit}
 use Rattle.cubes.proofs.Merging.{length-over}
+use Rattle.cubes.proofs.Blocking.{none-counted}
 use Rattle.cubes.proofs.Closes.{run-closes, most-within}
+use Rattle.cubes.proofs.Following.{Chain, chain-closed, chain-ended}
+use Rattle.cubes.proofs.Promise.{run-chain}
 use Rattle.cubes.proofs.Buffered.{cube-in, cubes-sized, latches-counted, stopped-is, stopped-within}
 
--- ---- number 0 says: not refused, and closed
+-- ---- number 0 says: not refused, and stopped
 
 zero-says : (k : ℕ) (o : Ending) → 0 ≡ leftBy k (outcomeNumber o) k → (k ≡ 0) × (hasStopped o ≡ true)
 unfolding leftBy outcomeNumber hasStopped
@@ -40,7 +43,7 @@ number-says (stops n j) e h = absurd (h e)
 number-says full e h = (e, refl)
 
 module _ (g : ChainGiven) (r : ChainAnswer) (cubes : List ℕ) (chained : Chained g r cubes) where
-  -- ---- closed
+  -- ---- stopped
 
   module _ (done : r .number ≡ 0) where
     pub says : (refusedBy g ≡ 0) × (hasStopped (outcomeIn g) ≡ true)
@@ -59,6 +62,10 @@ module _ (g : ChainGiven) (r : ChainAnswer) (cubes : List ℕ) (chained : Chaine
     unfolding cubesIn backIn
     outcome-is = stopped-is (roomIn (g .counts) (g .cubes)) (outcomeIn g) (says .1) ∙ ap₂ stops (sym n-is) (sym j-is)
 
+    chain : Chain (circuitIn g) (cubeAt (circuitIn g) (g .w)) (r .cubes) (r .back)
+    unfolding outcomeIn
+    chain = run-chain (circuitIn g) (g .w) (roomIn (g .counts) (g .cubes)) _ _ outcome-is
+
     filled : cubes ≡ over (packCubes (marked (g .w)) (cubeAt (circuitIn g) (g .w)) (r .cubes)) (g .cubes)
     filled = chained .fills-cubes ∙ taken _ _ ∙ ap (λ (n : ℕ). over (packCubes (marked (g .w)) (cubeAt (circuitIn g) (g .w)) n) (g .cubes)) (sym n-is)
 
@@ -69,7 +76,7 @@ module _ (g : ChainGiven) (r : ChainAnswer) (cubes : List ℕ) (chained : Chaine
 
     few : r .cubes ≤ roomIn (g .counts) (g .cubes)
     unfolding cubesIn outcomeIn
-    few = rw n-is (stopped-within (circuitIn g) (g .w) (roomIn (g .counts) (g .cubes)) (says .1) .1)
+    few = rw n-is (stopped-within (circuitIn g) (g .w) (roomIn (g .counts) (g .cubes)) (says .1))
 
     fit : r .cubes * cubeBytes (g .counts .latches) ≤ length (g .cubes)
     fit = cubes-fit (g .counts) (g .cubes) (r .cubes) few
@@ -90,7 +97,7 @@ module _ (g : ChainGiven) (r : ChainAnswer) (cubes : List ℕ) (chained : Chaine
     unfolding soundIn
     own-sound = every-all (r .cubes) _ (λ k h. rw filled (stored-sound (g .counts .latches) (marked (g .w)) (cubeAt (circuitIn g) (g .w)) sized (g .cubes) (r .cubes) k h fit .good))
 
-  -- ---- not closed
+  -- ---- not stopped
 
   pub only-full : refusedBy g ≡ 0 → (r .number ≡ 0 → ⊥) → (r .number ≡ 15) × (outcomeIn g ≡ full)
   only-full ok h = number-says (outcomeIn g) (chained .answers ∙ sym (accepted-new (refusedBy g) _ _ ok)) h
@@ -118,4 +125,11 @@ module _ (g : ChainGiven) (r : ChainAnswer) (cubes : List ℕ) (chained : Chaine
       (sharply .0, omega (arith, less, sharply .1))
 
   pub closing : Closing g r
-  closing = record { closes = closes-within; closes-sharply = λ ok pos enough. closes-sharply ok (omega arith) enough }
+  unfolding circuitIn
+  closing = record {
+    closes = closes-within;
+    closes-sharply = λ ok pos enough. closes-sharply ok (omega arith) enough;
+    back-within = λ done. chain done .within;
+    ended = λ done end e. chain-ended (chain done) e end;
+    closed = λ done none. chain-closed (chain done) (none-counted (g .counts) (g .table) none);
+  }

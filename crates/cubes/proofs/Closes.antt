@@ -1,4 +1,4 @@
--- With w at least 1 a run of L latches closes within w + L cubes, and with no latch at once: from cube w − 1 on each cube contains the
+-- With w at least 1 a run of L latches closes or ends within w + L cubes, and with no latch at once: from cube w − 1 on each cube contains the
 -- one before it, and where the run goes on it is not that one, so it knows a latch less. Assumes nothing.
 use mathlib.Core.Path.{_≡_, refl, sym, _∙_}
 use mathlib.Core.Bool.{true, true≢false}
@@ -16,7 +16,7 @@ use Rattle.three.proofs.Subsuming.{each-subsumes, known-fewer}
 use Rattle.circuit.specs.Circuit.{Circuit}
 use Rattle.cubes.specs.Run.{reached, store, stage, cubeAt, nowhere, Ending, stops, full, run}
 use Rattle.cubes.specs.Promise.{mostCubes}
-use Rattle.cubes.proofs.Steps.{last-fails, Looked, Ran, begun, stays, closes, goes-on, ran}
+use Rattle.cubes.proofs.Steps.{last-fails, Looked, nothing-found, Ran, dead, begun, stays, closes, goes-on, ran}
 use Rattle.cubes.proofs.Wider.{reached-sized, cube-sized}
 use Rattle.cubes.proofs.Growing.{hold-contains, Grows, grows}
 
@@ -29,7 +29,7 @@ module _ (c : Circuit) (w : ℕ) where
   unfolding knownIn
   few-known k = omega (arith, known-fields-le (cubeAt c w k), cube-sized c w k)
 
-  -- after a cube that closes nothing
+  -- after a cube that stops nothing
   module _ (k : ℕ) (open-yet : Looked c w k nowhere) where
     falls : Grows c w k → knownIn (suc k) < knownIn k
     unfolding knownIn cubeAt stage store
@@ -39,19 +39,19 @@ module _ (c : Circuit) (w : ℕ) where
         go (inr fewer) = fewer
         go (inl same) =
             let inside : subsumes (cubeAt c w (suc k)) (reached c (stage c w k)) ≡ true = each-subsumes (hold-contains _ _) in
-            absurd (true≢false (sym (rw same at inside) ∙ last-fails open-yet))
+            absurd (true≢false (sym (rw same at inside) ∙ last-fails (nothing-found c w open-yet)))
 
     some-latch : length (c .latches) ≡ 0 → ⊥
     unfolding every
     some-latch none =
         let bare = cube-sized c w k ∙ none in
         let inside = subsumes-every (cubeAt c w k) (reached c (stage c w k)) (bare ∙ sym (reached-sized c (stage c w k) ∙ none)) in
-        true≢false (sym (rw bare at inside) ∙ last-fails open-yet)
+        true≢false (sym (rw bare at inside) ∙ last-fails (nothing-found c w open-yet))
 
   module _ (pos : 1 ≤ w) where
-    -- in a run not closed yet each cube from number w on knows a latch less
+    -- in a run not stopped yet each cube from number w on knows a latch less
     still-known : {k : ℕ} → Ran c w k full → knownIn k + k < w + length (c .latches)
-    still-known begun = omega (arith, few-known 0)
+    still-known (begun free) = omega (arith, few-known 0)
     still-known (goes-on {k = k} past l) = go (decLt (suc k) w) (still-known past)
       where
         go : Dec (suc k < w) → knownIn k + k < w + length (c .latches) → knownIn (suc k) + suc k < w + length (c .latches)
@@ -63,15 +63,16 @@ module _ (c : Circuit) (w : ℕ) where
     still-open = go (length (c .latches)) refl
       where
         go : (latches : ℕ) → length (c .latches) ≡ latches → {k : ℕ} → Ran c w k full → k < mostCubes w latches
-        go zero e begun = omega arith
+        go zero e (begun free) = omega arith
         go zero e (goes-on {k = k} past l) = absurd (some-latch k l e)
         go (suc latches) e r = omega (arith, still-known r)
 
     few-cubes : {room n j : ℕ} → Ran c w room (stops n j) → n ≤ mostCubes w (length (c .latches))
+    few-cubes (dead e) = omega arith
     few-cubes (stays past) = few-cubes past
     few-cubes (closes past l) = still-open past
 
--- a run closes, with at most so many cubes
+-- a run stops, with at most so many cubes
 pub record ClosesWithin (bound : ℕ) (outcome : Ending) : Type 0 where
   pub n : ℕ
   pub j : ℕ

@@ -11,10 +11,10 @@ use Rattle.three.proofs.First.{first-at, first-none, first-nowhere}
 use Rattle.three.proofs.Lists.{by-test, every-at, every-all}
 use Rattle.circuit.specs.Circuit.{Circuit}
 use Rattle.circuit.specs.RulesInCode.{Passed}
-use Rattle.cubes.specs.Run.{nextCube, start, cubeAt, Found, at, nowhere, search, stops, run}
+use Rattle.cubes.specs.Run.{nextCube, blocked, start, cubeAt, Found, at, nowhere, search, stops, run}
 use Rattle.cubes.specs.Given.{covered, nextCovered, coverTests, firstUncovered}
 use Rattle.cubes.proofs.Steps.{Searched, searched, found, none-at-all}
-use Rattle.cubes.proofs.Cover.{Cover, chain-cover}
+use Rattle.cubes.proofs.Cover.{Cover}
 use Rattle.cubes.proofs.Promise.{run-chain}
 
 -- the number of what a search found
@@ -23,24 +23,26 @@ placeOf (at k) = k
 placeOf nowhere = 0
 
 module _ (c : Circuit) (cubes : ℕ → Cube) (n : ℕ) where
-  covered-found : (b : Cube) → covered c cubes n b ≡ true → (placeOf (search cubes n b) < n) × (subsumes (cubes (placeOf (search cubes n b))) b ≡ true)
+  covered-found : (b : Cube) → covered c cubes n b ≡ true → blocked c b ≡ false → (placeOf (search cubes n b) < n) × (subsumes (cubes (placeOf (search cubes n b))) b ≡ true)
   unfolding covered placeOf
-  covered-found b e = go (search cubes n b) (searched cubes b n) e
+  covered-found b e free = go (search cubes n b) (searched cubes b n) e
     where
-      go : (f : Found) → Searched cubes b n f → elim f [ at k ↦ true | nowhere ↦ false ] ≡ true → (placeOf f < n) × (subsumes (cubes (placeOf f)) b ≡ true)
+      go : (f : Found) → Searched cubes b n f → elim f [ at k ↦ true | nowhere ↦ blocked c b ] ≡ true → (placeOf f < n) × (subsumes (cubes (placeOf f)) b ≡ true)
       go (at k) s e = found s
-      go nowhere s e = absurd (false≢true e)
+      go nowhere s e = absurd (false≢true (sym free ∙ e))
 
-  pub covered-some : (b : Cube) → covered c cubes n b ≡ true → 1 ≤ n
-  covered-some b e = omega (arith, covered-found b e .0)
+  -- with no cube it is so exactly where a constraint is 0
+  pub covered-none : (b : Cube) → n ≡ 0 → covered c cubes n b ≡ blocked c b
+  unfolding covered search
+  covered-none b none = rw none
 
-  found-covered : (b : Cube) (k : ℕ) → k < n → subsumes (cubes k) b ≡ true → covered c cubes n b ≡ true
+  found-covered : (b : Cube) → (blocked c b ≡ false → (k : ℕ) × (k < n) × (subsumes (cubes k) b ≡ true)) → covered c cubes n b ≡ true
   unfolding covered
-  found-covered b k h e = go (search cubes n b) (searched cubes b n)
+  found-covered b over = go (search cubes n b) (searched cubes b n)
     where
-      go : (f : Found) → Searched cubes b n f → elim f [ at k ↦ true | nowhere ↦ false ] ≡ true
+      go : (f : Found) → Searched cubes b n f → elim f [ at k ↦ true | nowhere ↦ blocked c b ] ≡ true
       go (at j) s = refl
-      go nowhere s = absurd (true≢false (sym e ∙ none-at-all s k h))
+      go nowhere s = by-test (blocked c b) (λ e. e) (λ free. let there = over free in absurd (true≢false (sym (there .2) ∙ none-at-all s (there .0) (there .1))))
 
   pub test-cover : Passed (coverTests c cubes n) → Cover c cubes n (placeOf (search cubes n (start c))) (λ k. placeOf (search cubes n (nextCube c (cubes k))))
   unfolding coverTests nextCovered
@@ -51,9 +53,8 @@ module _ (c : Circuit) (cubes : ℕ → Cube) (n : ℕ) where
 
   pub cover-test : {origin : ℕ} {follow : ℕ → ℕ} → Cover c cubes n origin follow → Passed (coverTests c cubes n)
   unfolding coverTests nextCovered
-  cover-test cover =
-      let starts = cover .starts in
-      (found-covered (start c) _ (starts .0) (starts .1), (every-all n (nextCovered c cubes n) (λ k h. let there = cover .follows k h in found-covered (nextCube c (cubes k)) _ (there .0) (there .1)), tt))
+  cover-test {origin} {follow} cover =
+      (found-covered (start c) (λ free. let there = cover .starts free in (origin, there .0, there .1)), (every-all n (nextCovered c cubes n) (λ k h. found-covered (nextCube c (cubes k)) (λ free. let there = cover .follows k h free in (follow k, there .0, there .1))), tt))
 
 -- ---- the number that 18 names
 
@@ -76,13 +77,6 @@ module _ (c : Circuit) (cubes : ℕ → Cube) (n : ℕ) where
 
 -- ---- a run's own cubes
 
--- a cover is one by its n cubes alone
-pub cover-same : (c : Circuit) (f f′ : ℕ → Cube) (n : ℕ) → ((k : ℕ) → k < n → f k ≡ f′ k) → {origin : ℕ} {follow : ℕ → ℕ} → Cover c f n origin follow → Cover c f′ n origin follow
-cover-same c f f′ n same {origin} {follow} cover = record {
-  starts = let h = cover .starts in (h .0, rw (← same origin (h .0)) (h .1));
-  follows = λ k l. let h = cover .follows k l in (h .0, rw (← same (follow k) (h .0), ← same k l) (h .1));
-}
-
--- a closed run's cubes pass
+-- the cubes of a run that stops pass
 pub run-passes : (c : Circuit) (w room n j : ℕ) → run c w room ≡ stops n j → Passed (coverTests c (cubeAt c w) n)
-run-passes c w room n j closed = cover-test c (cubeAt c w) n (chain-cover (run-chain c w room n j closed))
+run-passes c w room n j stopped = cover-test c (cubeAt c w) n (run-chain c w room n j stopped .cover)

@@ -1,5 +1,5 @@
--- A closed chain of cubes without X: each is the state of its tick, and an open lamp is lit at one tick and dark at another. A chain that does not widen,
--- on a board without switches and with start values, is one. Assumes nothing.
+-- A closed chain of cubes without X: each is the state of its tick, and an open lamp or bad state is lit at one tick and dark at another. A chain that does
+-- not widen, on a board without switches and constraints and with start values, is one. Assumes nothing.
 use mathlib.Core.Path.{_≡_, refl, sym, ap, _∙_}
 use mathlib.Core.Bool.{Bool, true, false, not}
 use mathlib.Core.List.{List, [], _∷_, map}
@@ -12,13 +12,15 @@ use Rattle.three.specs.Cube.{Cube, blank, knownFields}
 use Rattle.circuit.specs.Circuit.{Circuit, Latch, readings, next}
 use Rattle.circuit.proofs.Pass.{readings-sized}
 use Rattle.circuit.proofs.Sound.{readings-boolean}
-use Rattle.cubes.specs.Run.{hold, due, switchesUnknown, nextCube, lampsIn, startField, resets, start, reached, widened, store, stage, cubeAt, merge, mergeFrom, verdict}
-use Rattle.cubes.specs.Execution.{Execution, settings, stateAfter, lampsAfter}
-use Rattle.cubes.specs.OutcomesInCode.{place}
+use Rattle.cubes.specs.Run.{hold, due, switchesUnknown, nextCube, watched, watchedIn, startField, resets, start, reached, widened, store, stage, cubeAt, merge, mergeFrom, verdict}
+use Rattle.cubes.specs.Execution.{Execution, settings, stateAfter, readAfter, watchedAfter}
+use Rattle.cubes.specs.Given.{onward}
 use Rattle.cubes.specs.Exact.{Certain, Exact, Sometimes}
 use Rattle.cubes.proofs.Allowed.{allowed-starts}
-use Rattle.cubes.proofs.Places.{place-early, place-below}
-use Rattle.cubes.proofs.Cover.{Chain, lamps-sized, place-covers}
+use Rattle.cubes.proofs.Reading.{watched-sized}
+use Rattle.cubes.proofs.Blocking.{always-lawful}
+use Rattle.cubes.proofs.Cover.{visited, visited-covers}
+use Rattle.cubes.proofs.Following.{Chain, chain-closed, chain-early}
 use Rattle.cubes.proofs.Wider.{cube-sized}
 use Rattle.cubes.proofs.Whole.{whole-state, state-whole, Kept, all, differs, kept}
 
@@ -42,45 +44,46 @@ getD-known [] i h = absurd (omega arith)
 getD-known (b ∷ bs) zero h = refl
 getD-known (b ∷ bs) (suc i) h = getD-known bs i (omega arith)
 
-module _ {c : Circuit} {cubes : ℕ → Cube} {n j : ℕ} (chain : Chain c cubes n j) (single : (k : ℕ) → k < n → knownFields (cubes k) ≡ length (c .latches)) (e : Execution c) where
+module _ {c : Circuit} {cubes : ℕ → Cube} {n j : ℕ} (chain : Chain c cubes n j) (none : c .constraints ≡ []) (single : (k : ℕ) → k < n → knownFields (cubes k) ≡ length (c .latches)) (e : Execution c) where
   pub chain-exact : Exact cubes n e
   chain-exact = record {
-    occurs = λ k h. whole-state (cubes k) (single k h ∙ sym (chain .sized k)) (rw (place-early n j k (chain .below) h) at (place-covers chain e k));
+    occurs = λ k h. whole-state (cubes k) (single k h ∙ sym (chain .sized k)) (chain-early chain e k (always-lawful c none e k) h);
     stored = λ t.
-        let below = place-below n j t (chain .below) in
-        (place n j t, below, whole-state (cubes (place n j t)) (single _ below ∙ sym (chain .sized _)) (place-covers chain e t));
+        let there = visited-covers (chain .cover) e t (always-lawful c none e t) in
+        (visited 0 (onward n j) t, there .0, whole-state (cubes (visited 0 (onward n j) t)) (single _ (there .0) ∙ sym (chain .sized _)) (there .1));
   }
 
-  -- without switches the lamps in cube k are those of tick k
-  lamps-are : c .inputs ≡ 0 → (k : ℕ) → k < n → lampsIn c (cubes k) ≡ map known (lampsAfter e k)
-  unfolding lampsIn switchesUnknown lampsAfter settings
-  lamps-are none k h = ap (lampsIn c) (chain-exact .occurs k h) ∙ readings-certain c (c .lamps) (c .inputs) none (e .switches k) (stateAfter e k)
+  -- without switches the lamps and bad states in cube k are those of tick k
+  watched-are : c .inputs ≡ 0 → (k : ℕ) → k < n → watchedIn c (cubes k) ≡ map known (watchedAfter e k)
+  unfolding watchedIn switchesUnknown readAfter settings
+  watched-are bare k h = ap (watchedIn c) (chain-exact .occurs k h) ∙ readings-certain c (watched c) (c .inputs) bare (e .switches k) (stateAfter e k)
 
-  pub chain-opens : c .inputs ≡ 0 → (i : ℕ) → i < length (c .lamps) → getD (verdict c cubes n) i unknown ≡ unknown → Sometimes n e i true × Sometimes n e i false
+  pub chain-opens : c .inputs ≡ 0 → (i : ℕ) → i < length (watched c) → getD (verdict c cubes n) i unknown ≡ unknown
+      → Sometimes n (watchedAfter e) i true × Sometimes n (watchedAfter e) i false
   unfolding verdict mergeFrom
-  chain-opens none i h = go n (omega (arith, chain .below)) refl
+  chain-opens bare i h = go n (omega (arith, chain-closed chain none)) refl
     where
       lit : ℕ → Bool
-      lit k = getD (lampsAfter e k) i false
+      lit k = getD (watchedAfter e k) i false
 
-      many : (k : ℕ) → length (lampsAfter e k) ≡ length (c .lamps)
-      many k = unfold lampsAfter in readings-sized boolean c _ _ _
+      many : (k : ℕ) → length (watchedAfter e k) ≡ length (watched c)
+      many k = unfold readAfter in readings-sized boolean c _ _ _
 
-      is : (k : ℕ) → k < n → getD (lampsIn c (cubes k)) i unknown ≡ known (lit k)
-      is k l = ap (λ (v : Cube). getD v i unknown) (lamps-are none k l) ∙ getD-known (lampsAfter e k) i (omega (arith, h, many k))
+      is : (k : ℕ) → k < n → getD (watchedIn c (cubes k)) i unknown ≡ known (lit k)
+      is k l = ap (λ (v : Cube). getD v i unknown) (watched-are bare k l) ∙ getD-known (watchedAfter e k) i (omega (arith, h, many k))
 
-      both : (b : Bool) → lit 0 ≡ b → (k : ℕ) → k < n → lit k ≡ not b → Sometimes n e i true × Sometimes n e i false
+      both : (b : Bool) → lit 0 ≡ b → (k : ℕ) → k < n → lit k ≡ not b → Sometimes n (watchedAfter e) i true × Sometimes n (watchedAfter e) i false
       both true a k l d = ((0, omega (arith, l), a), (k, l, d))
       both false a k l d = ((k, l, d), (0, omega (arith, l), a))
 
-      ends : (more : ℕ) → n ≡ suc more → Kept lit more (getD (merge (λ k. lampsIn c (cubes k)) 0 more) i unknown) → getD (merge (λ k. lampsIn c (cubes k)) 0 more) i unknown ≡ unknown
-          → Sometimes n e i true × Sometimes n e i false
+      ends : (more : ℕ) → n ≡ suc more → Kept lit more (getD (merge (λ k. watchedIn c (cubes k)) 0 more) i unknown) → getD (merge (λ k. watchedIn c (cubes k)) 0 more) i unknown ≡ unknown
+          → Sometimes n (watchedAfter e) i true × Sometimes n (watchedAfter e) i false
       ends more s (all a) is-x = absurd (not-unknown (lit 0) (sym a ∙ is-x))
       ends more s (differs k l d) is-x = both (lit 0) refl k (omega arith) d
 
-      go : (m : ℕ) → 0 < m → n ≡ m → getD (mergeFrom (replicate (length (c .lamps)) low) (λ k. lampsIn c (cubes k)) 0 m) i unknown ≡ unknown → Sometimes n e i true × Sometimes n e i false
+      go : (m : ℕ) → 0 < m → n ≡ m → getD (mergeFrom (replicate (length (watched c)) low) (λ k. watchedIn c (cubes k)) 0 m) i unknown ≡ unknown → Sometimes n (watchedAfter e) i true × Sometimes n (watchedAfter e) i false
       go zero pos s is-x = absurd (omega arith)
-      go (suc more) pos s is-x = ends more s (kept (λ k. lampsIn c (cubes k)) (length (c .lamps)) i (λ k. lamps-sized c (cubes k)) lit more (λ k l. is k (omega arith))) is-x
+      go (suc more) pos s is-x = ends more s (kept (λ k. watchedIn c (cubes k)) (length (watched c)) i (λ k. watched-sized c (cubes k)) lit more (λ k l. is k (omega arith))) is-x
 
 -- ---- a chain that does not widen
 

@@ -15,7 +15,7 @@ use Rattle.three.proofs.Lists.{length-adjust, each-self, each-adjust}
 use Rattle.three.proofs.Fields.{of-two, allows-self}
 use Rattle.three.proofs.Subsuming.{Wider, each-subsumes, subsumes-trans}
 use Rattle.circuit.specs.Circuit.{Circuit}
-use Rattle.circuit.proofs.Narrow.{next-wider}
+use Rattle.circuit.proofs.Narrow.{readings-wider}
 use Rattle.cubes.specs.Run.{hold, differing, due, switchesUnknown, nextCube, Stage, reached, widened, store, stage, cubeAt}
 use Rattle.cubes.proofs.Wider.{reached-sized, cube-sized}
 
@@ -113,7 +113,7 @@ module _ (c : Circuit) (w : ℕ) where
 
   grows-on : (k : ℕ) → Grows k → Grows (suc k)
   unfolding cubeAt stage store reached nextCube
-  grows-on k h = hold-wider (held-stays (suc k)) (hold-wider (held-stays k) (next-wider c (switchesUnknown c) h))
+  grows-on k h = hold-wider (held-stays (suc k)) (hold-wider (held-stays k) (readings-wider c _ (switchesUnknown c) h))
 
   pub grows : (k : ℕ) → 1 ≤ w → w ≤ suc k → Grows k
   grows zero pos h = grows-due 0 (omega arith)

@@ -8,6 +8,7 @@ use borrow.Author.Tests.{le-leb, lt-leb}
 use lib.ListN.{length}
 use Rattle.three.specs.Record.{bytesFor}
 use Rattle.circuit.specs.Refusal.{Test, _or_, refusal}
+use Rattle.circuit.specs.Table.{verdicts}
 use Rattle.circuit.proofs.Refusals.{stops, past, none, passes}
 use Rattle.cubes.specs.Given.{isChain}
 use Rattle.cubes.specs.GivenInCode.{givenTests}
@@ -32,21 +33,21 @@ module _ (g : JudgeGiven) where
       unfolding judgeTests
       past-chain e = past-given _ _ _ _ _ ok (past _ _ chain e)
 
-      pub verdict-short : length (g .verdict) < bytesFor (g .counts .lamps) → 10 ≡ number
+      pub verdict-short : length (g .verdict) < bytesFor (verdicts (g .counts)) → 10 ≡ number
       unfolding resultTests
-      verdict-short h = past-chain (stops _ _ (lt-leb (bytesFor (g .counts .lamps)) (length (g .verdict)) h))
+      verdict-short h = past-chain (stops _ _ (lt-leb (bytesFor (verdicts (g .counts))) (length (g .verdict)) h))
 
-      module _ (fits : bytesFor (g .counts .lamps) ≤ length (g .verdict)) where
+      module _ (fits : bytesFor (verdicts (g .counts)) ≤ length (g .verdict)) where
         pub settled-short : length (g .settled) < bytesFor (g .counts .latches) → 10 ≡ number
         unfolding resultTests
-        settled-short h = past-chain (past _ _ (le-leb (bytesFor (g .counts .lamps)) (length (g .verdict)) fits) (stops _ _ (lt-leb (bytesFor (g .counts .latches)) (length (g .settled)) h)))
+        settled-short h = past-chain (past _ _ (le-leb (bytesFor (verdicts (g .counts))) (length (g .verdict)) fits) (stops _ _ (lt-leb (bytesFor (g .counts .latches)) (length (g .settled)) h)))
 
         pub judge-passes : bytesFor (g .counts .latches) ≤ length (g .settled) → 0 ≡ number
         unfolding resultTests
         judge-passes h =
-            past-chain (past _ _ (le-leb (bytesFor (g .counts .lamps)) (length (g .verdict)) fits) (past _ _ (le-leb (bytesFor (g .counts .latches)) (length (g .settled)) h) none))
+            past-chain (past _ _ (le-leb (bytesFor (verdicts (g .counts))) (length (g .verdict)) fits) (past _ _ (le-leb (bytesFor (g .counts .latches)) (length (g .settled)) h) none))
 
-  -- where none is given the cubes are a closed chain
+  -- where none is given the cubes are a chain
   pub accepted-chain : 0 ≡ number → isChain (circuitIn g) (cubesIn g) (g .n) (g .j) ≡ true
   unfolding judgeTests resultTests
   accepted-chain e = passes _ (omega arith) (behind-given (g .counts) (g .table) (g .cubes) (g .n) _ e) .0

@@ -4,8 +4,13 @@ pub mod Wider
 pub mod Growing
 pub mod Closes
 pub mod Places
-pub mod Cover
+pub mod Reading
+pub mod Blocking
 pub mod Allowed
+pub mod Cover
+pub mod Following
+pub mod Watching
+pub mod Ending
 pub mod Promise
 pub mod Covering
 pub mod Pairs
@@ -22,6 +27,7 @@ pub mod Chaining
 pub mod Judging
 pub mod Whole
 pub mod Exact
+pub mod Entries
 pub mod Promising
 pub mod Unwidened
 pub mod Trusted

@@ -1,5 +1,5 @@
--- What a closed chain leaves is never refused by the judge, given room for the results: with the table that made it, and with any that differs in its lamps
--- alone; verdict and settled record are then those of that circuit's run. Assumes nothing.
+-- What a chain leaves, closed or ended, is never refused by the judge, given room for the results: with the table that made it, and with any that differs in
+-- its lamps and bad states alone; verdict and settled record are then those of that circuit's run. Assumes nothing.
 use mathlib.Core.Path.{_≡_, refl, sym, ap, _∙_}
 use mathlib.Core.Bool.{true}
 use mathlib.Core.List.{List}
@@ -10,7 +10,7 @@ use Rattle.three.specs.Record.{bytesFor}
 use Rattle.circuit.specs.declared.Counts.{Counts}
 use Rattle.circuit.specs.Circuit.{Circuit, Latch}
 use Rattle.circuit.specs.Refusal.{refusal}
-use Rattle.circuit.specs.Table.{circuitOf, boardTests}
+use Rattle.circuit.specs.Table.{verdicts, circuitOf, boardTests}
 use Rattle.circuit.proofs.Refusals.{none-append, none-past}
 use Rattle.circuit.proofs.Legality.{board-numbered}
 use Rattle.cubes.specs.declared.ChainAnswer.{ChainAnswer}
@@ -27,7 +27,7 @@ use Rattle.cubes.proofs.Chaining.{says, outcome-is, cube-is, own-few, o
 use Rattle.cubes.proofs.Judging.{past-chain, judge-passes}
 
 pub relit-self : (c : Circuit) → Relit c c
-relit-self c = record { inputs = refl; latches = refl; gates = refl }
+relit-self c = record { inputs = refl; latches = refl; gates = refl; constraints = refl }
 
 module _ (g : ChainGiven) (r : ChainAnswer) (cubes : List ℕ) (chained : Chained g r cubes) (closed : r .number ≡ 0) where
   -- the table that made it passes its own tests again
@@ -68,7 +68,7 @@ module _ (g : ChainGiven) (r : ChainAnswer) (cubes : List ℕ) (chained : Chaine
       pub own-decided : refusal (resultTests given) ≡ refusal (judgeTests given)
       own-decided = past-chain given own-given (unfold circuitIn cubesIn in own-chain) refl
 
-      pub own-accepted : bytesFor (c .lamps) ≤ length verdict₀ → bytesFor (c .latches) ≤ length settled₀ → 0 ≡ refusal (judgeTests given)
+      pub own-accepted : bytesFor (verdicts c) ≤ length verdict₀ → bytesFor (c .latches) ≤ length settled₀ → 0 ≡ refusal (judgeTests given)
       own-accepted fits room = judge-passes given own-given (unfold circuitIn cubesIn in own-chain) fits room
 
       pub own-verdict : verdictFields given ≡ verdict (circuitOf c table) (cubeAt (circuitOf c table) (g .w)) (r .cubes)

@@ -13,9 +13,10 @@ use Rattle.cubes.specs.Run.{cubeAt}
 use Rattle.cubes.specs.Buffer.{cubeIn}
 use Rattle.cubes.specs.Chain.{ChainGiven, roomIn, outcomeIn, Chained, circuitIn as boardIn}
 use Rattle.cubes.specs.Judge.{JudgeGiven, circuitIn, Judged}
-use Rattle.cubes.specs.Execution.{Execution, stateAfter}
+use Rattle.cubes.specs.Execution.{Execution, stateAfter, lampsAfter}
 use Rattle.cubes.specs.Exact.{Certain, Exact, Sometimes, Singles}
 use Rattle.cubes.proofs.Whole.{state-whole}
+use Rattle.cubes.proofs.Blocking.{counted-none}
 use Rattle.cubes.proofs.StoredCube.{cube-in-sized}
 use Rattle.cubes.proofs.Promise.{run-chain}
 use Rattle.cubes.proofs.Chaining.{outcome-is, cube-is}
@@ -29,7 +30,7 @@ module _ (g : ChainGiven) (r : ChainAnswer) (cubes : List ℕ) (chained : Chaine
   unfolding outcomeIn
   own-exact done plain certain e =
       let exact : Exact (cubeAt (boardIn g) (g .w)) (r .cubes) e =
-      chain-exact (run-chain (boardIn g) (g .w) (roomIn (g .counts) (g .cubes)) _ _ (outcome-is g r cubes chained done)) (λ k h. ap (λ (w : ℕ). knownFields (cubeAt (boardIn g) w k)) plain ∙ plain-whole (boardIn g) certain e k) e in
+      chain-exact (run-chain (boardIn g) (g .w) (roomIn (g .counts) (g .cubes)) _ _ (outcome-is g r cubes chained done)) (certain .unconstrained) (λ k h. ap (λ (w : ℕ). knownFields (cubeAt (boardIn g) w k)) plain ∙ plain-whole (boardIn g) certain e k) e in
       record {
         occurs = λ k h. sym (cube-is g r cubes chained done k h) ∙ exact .occurs k h;
         stored = λ t. let s = exact .stored t in (s .0, s .1, sym (cube-is g r cubes chained done (s .0) (s .1)) ∙ s .2);
@@ -49,11 +50,12 @@ module _ (g : ChainGiven) (r : ChainAnswer) (cubes : List ℕ) (chained : Chaine
   abbrev judging : List ℕ → List ℕ → JudgeGiven
   judging verdict settled = record { counts = g .counts; table = g .table; cubes = cubes; n = r .cubes; j = r .back; verdict = verdict; settled = settled }
 
-  -- without widening, on a board without switches and with start values: an open lamp is lit at some tick and dark at another
+  -- without widening, on a board without switches and constraints and with start values: an open lamp is lit at some tick and dark at another
   pub open-trusted : (verdict settled : List ℕ) (s : JudgeAnswer) (verdict′ settled′ : List ℕ) → Judged (judging verdict settled) s verdict′ settled′ → s .number ≡ 0
       → (e : Execution (boardIn g)) (i : ℕ) → i < g .counts .lamps → getD (unpack (g .counts .lamps) verdict′) i unknown ≡ unknown
-      → Sometimes (r .cubes) e i true × Sometimes (r .cubes) e i false
+      → Sometimes (r .cubes) (lampsAfter e) i true × Sometimes (r .cubes) (lampsAfter e) i false
   unfolding circuitIn boardIn
   open-trusted verdict settled s verdict′ settled′ judged accepted e i h is =
       promises (judging verdict settled) s verdict′ settled′ judged .opens .opens accepted
+      (counted-none (g .counts) (g .table) (certain .unconstrained))
       (exact-no-x g cubes (r .cubes) e (singles g r cubes chained .exact done plain certain e)) (certain .switchless) e i h is

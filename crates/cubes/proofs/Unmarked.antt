@@ -13,7 +13,7 @@ use Rattle.circuit.specs.Circuit.{Circuit}
 use Rattle.circuit.specs.Refusal.{Test, _or_, refusal}
 use Rattle.circuit.specs.Table.{boardTests}
 use Rattle.cubes.specs.declared.JudgeAnswer.{JudgeAnswer}
-use Rattle.cubes.specs.Run.{nextCube, start, Found, at, nowhere, search}
+use Rattle.cubes.specs.Run.{blocked, nextCube, start, Found, at, nowhere, search}
 use Rattle.cubes.specs.Buffer.{cubeBytes, Remarked}
 use Rattle.cubes.specs.Chain.{roomIn}
 use Rattle.cubes.specs.Given.{cubeTests, covered, nextCovered, coverTests, firstUncovered, isChain}
@@ -38,7 +38,7 @@ search-same f f′ b (suc n) same =
 module _ (c : Circuit) (f f′ : ℕ → Cube) (n : ℕ) (same : (k : ℕ) → k < n → f k ≡ f′ k) where
   covered-same : (b : Cube) → covered c f n b ≡ covered c f′ n b
   unfolding covered
-  covered-same b = ap (λ (s : Found). elim s [ at k ↦ true | nowhere ↦ false ]) (search-same f f′ b n same)
+  covered-same b = ap (λ (s : Found). elim s [ at k ↦ true | nowhere ↦ blocked c b ]) (search-same f f′ b n same)
 
   next-covered-same : (k : ℕ) → k < n → nextCovered c f n k ≡ nextCovered c f′ n k
   unfolding nextCovered

@@ -26,7 +26,7 @@ storedCubes room e = elim e [ stops n j ↦ n | full ↦ room ]
 unfoldable pub backTo : Ending → ℕ
 backTo e = elim e [ stops n j ↦ j | full ↦ 0 ]
 
--- 15 where the run is not closed
+-- 15 where the run has not stopped
 unfoldable pub outcomeNumber : Ending → ℕ
 outcomeNumber e = elim e [ stops n j ↦ 0 | full ↦ 15 ]
 

@@ -9,15 +9,15 @@ use Rattle.three.specs.Record.{byteOf, byteAt, pack, pairs, pairAt, unpack, bad
 use Rattle.circuit.specs.declared.Counts.{Counts}
 use Rattle.circuit.specs.Circuit.{signed, value, pass, settle, readings}
 use Rattle.circuit.specs.Refusal.{refusal, allHold, leftBy}
-use Rattle.circuit.specs.Table.{ceilingTests, several, kinds, width, rowTests, tableTests, circuitOf, wordTests, boardTests, lampTests, literalTests, operandTests}
-use Rattle.cubes.specs.Run.{hold, differing, due, switchesUnknown, nextCube, lampsIn, startField, resets, start, reached, widened, store, stage, cubeAt, merge, mergeFrom, verdict, settled}
-use Rattle.cubes.specs.Buffer.{cubeBytes, packCube, cubeOf, soundCube, cubeIn, soundIn, packCubes, marked}
+use Rattle.circuit.specs.Table.{plainCounts, ceilingTests, several, kinds, width, rowTests, tableTests, circuitOf, wordTests, boardTests, lampTests, literalTests, operandTests}
+use Rattle.cubes.specs.Run.{switchesUnknown, nextCube, watched, watchedIn, someLow, blocked, startField, resets, start, merge, mergeFrom, verdict, settled, hold, differing, due, reached, widened, store, stage, cubeAt}
+use Rattle.cubes.specs.Buffer.{cubeBytes, cubeOf, soundCube, cubeIn, soundIn, packCube, packCubes, marked}
 use Rattle.cubes.specs.Chain.{roomIn, chainTests}
-use Rattle.cubes.specs.Given.{cubeTests, same, onward, goesOn, isChain}
+use Rattle.cubes.specs.Given.{cubeTests, same, onward, goesTo, goesOn, startsChain, isChain}
 use Rattle.cubes.specs.Judge.{JudgeGiven, circuitIn, cubesIn, resultTests, judgeTests, verdictFields, settledFields}
 
 unfoldable pub answered : JudgeGiven → List ℕ
-unfolding tabulate every adjust over code decode both inverse ternary alike allows subsumes blank agree merged knownFields byteOf byteAt pack pairs pairAt unpack bad leftover sound signed value pass settle readings refusal allHold leftBy ceilingTests lampTests several kinds width rowTests literalTests operandTests tableTests circuitOf wordTests boardTests switchesUnknown nextCube lampsIn startField resets start merge mergeFrom verdict settled cubeBytes cubeOf soundCube cubeIn soundIn roomIn cubeTests same onward goesOn isChain circuitIn cubesIn resultTests judgeTests verdictFields settledFields
+unfolding tabulate every adjust over code decode both inverse ternary alike allows subsumes blank agree merged knownFields byteOf byteAt pack pairs pairAt unpack bad leftover sound signed value pass settle readings refusal allHold leftBy ceilingTests lampTests several kinds width rowTests literalTests operandTests tableTests circuitOf wordTests boardTests switchesUnknown nextCube watched watchedIn someLow blocked startField resets start merge mergeFrom verdict settled cubeBytes cubeOf soundCube cubeIn soundIn roomIn cubeTests same onward goesTo goesOn startsChain isChain circuitIn cubesIn resultTests judgeTests verdictFields settledFields
 answered g =
     let number : ℕ = refusal (judgeTests g) in
     number ∷ leftBy number (knownFields (settledFields g)) 0 ∷ (leftBy number (over (pack (verdictFields g)) (g .verdict)) (g .verdict) ++ leftBy number (over (pack (settledFields g)) (g .settled)) (g .settled))
@@ -27,17 +27,17 @@ judges c table cubes n j verdict settled = record { counts = c; table = table; c
 
 -- S, with these buffers for the results, and with one byte for each
 abbrev S-lent : List ℕ → ℕ → ℕ → List ℕ → List ℕ → JudgeGiven
-S-lent = judges (record { inputs = 0; latches = 2; lamps = 1; gates = 1 }) (4 ∷ 0 ∷ 2 ∷ 1 ∷ 6 ∷ 4 ∷ 2 ∷ [])
+S-lent = judges (record { inputs = 0; latches = 2; lamps = 1; gates = 1; bads = 0; constraints = 0 }) (4 ∷ 0 ∷ 2 ∷ 1 ∷ 6 ∷ 4 ∷ 2 ∷ [])
 
 abbrev S : List ℕ → ℕ → ℕ → JudgeGiven
 S cubes n j = S-lent cubes n j (255 ∷ []) (255 ∷ [])
 
 -- E with its lamp, and with one more, the constant 0: an old chain and a new lamp
 abbrev E : List ℕ → ℕ → ℕ → JudgeGiven
-E cubes n j = judges (record { inputs = 0; latches = 1; lamps = 1; gates = 0 }) (1 ∷ 0 ∷ 2 ∷ []) cubes n j (255 ∷ []) (255 ∷ [])
+E cubes n j = judges (record { inputs = 0; latches = 1; lamps = 1; gates = 0; bads = 0; constraints = 0 }) (1 ∷ 0 ∷ 2 ∷ []) cubes n j (255 ∷ []) (255 ∷ [])
 
 abbrev E-more : List ℕ → ℕ → ℕ → JudgeGiven
-E-more cubes n j = judges (record { inputs = 0; latches = 1; lamps = 2; gates = 0 }) (1 ∷ 0 ∷ 2 ∷ 0 ∷ []) cubes n j (255 ∷ []) (255 ∷ [])
+E-more cubes n j = judges (record { inputs = 0; latches = 1; lamps = 2; gates = 0; bads = 0; constraints = 0 }) (1 ∷ 0 ∷ 2 ∷ 0 ∷ []) cubes n j (255 ∷ []) (255 ∷ [])
 
 -- its own chains, not widened and widened; the same once more round; cubes that no chain made, wider than they have to be
 pub accepts : (answered (S (0x58 ∷ 0x64 ∷ []) 2 0) ≡ 0 ∷ 0 ∷ 0x40 ∷ 0x00 ∷ [])
@@ -85,14 +85,14 @@ unfolding tabulate adjust code known both inverse ternary alike blank byteOf byt
 stores c table w n = packCubes (marked w) (cubeAt (circuitOf c table) w) n
 
 -- plain and widened cubes of C, and of four latches that each follow the inverse of the first: their records take two bytes
-pub stored : (stores (record { inputs = 0; latches = 2; lamps = 1; gates = 3 }) (3 ∷ 0 ∷ 11 ∷ 0 ∷ 10 ∷ 4 ∷ 3 ∷ 5 ∷ 2 ∷ 9 ∷ 7 ∷ []) 0 4 ≡ 0x54 ∷ 0x64 ∷ 0x58 ∷ 0x68 ∷ [])
-    × (stores (record { inputs = 0; latches = 2; lamps = 1; gates = 3 }) (3 ∷ 0 ∷ 11 ∷ 0 ∷ 10 ∷ 4 ∷ 3 ∷ 5 ∷ 2 ∷ 9 ∷ 7 ∷ []) 2 3 ≡ 0x54 ∷ 0x64 ∷ 0x80 ∷ [])
-    × (stores (record { inputs = 0; latches = 4; lamps = 1; gates = 0 }) (3 ∷ 0 ∷ 3 ∷ 0 ∷ 3 ∷ 0 ∷ 3 ∷ 1 ∷ 2 ∷ []) 0 2 ≡ 0x55 ∷ 0x80 ∷ 0x6A ∷ 0x80 ∷ [])
+pub stored : (stores (plainCounts 0 2 1 3) (3 ∷ 0 ∷ 11 ∷ 0 ∷ 10 ∷ 4 ∷ 3 ∷ 5 ∷ 2 ∷ 9 ∷ 7 ∷ []) 0 4 ≡ 0x54 ∷ 0x64 ∷ 0x58 ∷ 0x68 ∷ [])
+    × (stores (plainCounts 0 2 1 3) (3 ∷ 0 ∷ 11 ∷ 0 ∷ 10 ∷ 4 ∷ 3 ∷ 5 ∷ 2 ∷ 9 ∷ 7 ∷ []) 2 3 ≡ 0x54 ∷ 0x64 ∷ 0x80 ∷ [])
+    × (stores (plainCounts 0 4 1 0) (3 ∷ 0 ∷ 3 ∷ 0 ∷ 3 ∷ 0 ∷ 3 ∷ 1 ∷ 2 ∷ []) 0 2 ≡ 0x55 ∷ 0x80 ∷ 0x6A ∷ 0x80 ∷ [])
 unfolding stores
 stored = (refl, refl, refl)
 
 -- so 13 is given for a buffer of one byte, and not for one of two
-pub room-for-one : (refusal (chainTests (record { inputs = 0; latches = 4; lamps = 1; gates = 0 }) (3 ∷ 0 ∷ 3 ∷ 0 ∷ 3 ∷ 0 ∷ 3 ∷ 1 ∷ 2 ∷ []) 0 1) ≡ 13)
-    × (refusal (chainTests (record { inputs = 0; latches = 4; lamps = 1; gates = 0 }) (3 ∷ 0 ∷ 3 ∷ 0 ∷ 3 ∷ 0 ∷ 3 ∷ 1 ∷ 2 ∷ []) 0 2) ≡ 0)
+pub room-for-one : (refusal (chainTests (plainCounts 0 4 1 0) (3 ∷ 0 ∷ 3 ∷ 0 ∷ 3 ∷ 0 ∷ 3 ∷ 1 ∷ 2 ∷ []) 0 1) ≡ 13)
+    × (refusal (chainTests (plainCounts 0 4 1 0) (3 ∷ 0 ∷ 3 ∷ 0 ∷ 3 ∷ 0 ∷ 3 ∷ 1 ∷ 2 ∷ []) 0 2) ≡ 0)
 unfolding every refusal allHold ceilingTests lampTests several kinds width rowTests literalTests operandTests tableTests wordTests boardTests chainTests cubeBytes
 room-for-one = (refl, refl)

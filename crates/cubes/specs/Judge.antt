@@ -10,7 +10,7 @@ use Rattle.three.specs.Record.{bytesFor, pack}
 use Rattle.circuit.specs.declared.Counts.{Counts}
 use Rattle.circuit.specs.Circuit.{Circuit}
 use Rattle.circuit.specs.Refusal.{Test, _or_, refusal, leftBy}
-use Rattle.circuit.specs.Table.{circuitOf, boardTests}
+use Rattle.circuit.specs.Table.{verdicts, circuitOf, boardTests}
 use Rattle.cubes.specs.declared.JudgeAnswer.{JudgeAnswer}
 use Rattle.cubes.specs.Buffer.{cubeIn}
 use Rattle.cubes.specs.Run.{verdict, settled}
@@ -36,7 +36,7 @@ module _ (g : JudgeGiven) where
 
   -- 10 for the results
   unfoldable pub resultTests : List Test
-  resultTests = leb (bytesFor (g .counts .lamps)) (length (g .verdict)) or 10 ∷ leb (bytesFor (g .counts .latches)) (length (g .settled)) or 10 ∷ []
+  resultTests = leb (bytesFor (verdicts (g .counts))) (length (g .verdict)) or 10 ∷ leb (bytesFor (g .counts .latches)) (length (g .settled)) or 10 ∷ []
 
   -- 3, 16, 10 for the table, 11, 10 for the cubes, 14, 19, 10 for the results
   unfoldable pub judgeTests : List Test

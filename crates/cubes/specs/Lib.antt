@@ -11,3 +11,4 @@ pub mod HeldInCode
 pub mod BufferInCode
 pub mod GivenInCode
 pub mod Examples
+pub mod Ended

@@ -1,13 +1,13 @@
--- The run (specification, 5.1 to 5.7): cubes from the resets on, until one falls inside a stored one. Assumes nothing.
-use mathlib.Core.Bool.{Bool, true, false, not, _||_}
-use mathlib.Core.List.{List, map, zipWith}
+-- The run (specification, 5.1 to 5.7): cubes from the resets on, until one falls inside a stored one or a constraint is 0 in it. Assumes nothing.
+use mathlib.Core.Bool.{Bool, true, false, not, cond, _||_}
+use mathlib.Core.List.{List, [], _∷_, _++_, map, zipWith}
 use Prim.Native.Nat.{ℕ, zero, suc, _+_, _-_, _%_}
 use lib.ListN.{length, replicate}
 use lib.Dec.{eqb}
 use Rattle.three.specs.Lists.{adjust}
 use Rattle.three.specs.Value.{Three, unknown, low, high, ternary}
 use Rattle.three.specs.Cube.{Cube, alike, subsumes, blank, merged}
-use Rattle.circuit.specs.Circuit.{Circuit, Latch, next, lamps}
+use Rattle.circuit.specs.Circuit.{Circuit, Latch, readings, next, lamps, constraints}
 
 -- held latches set to X
 unfoldable pub hold : List Bool → Cube → Cube
@@ -32,6 +32,22 @@ nextCube c a = next ternary c (switchesUnknown c) a
 -- the lamps in a cube
 unfoldable pub lampsIn : Circuit → Cube → Cube
 lampsIn c a = lamps ternary c (switchesUnknown c) a
+
+-- the literals that get verdicts, the lamps and then the bad states, and what they are in a cube
+unfoldable pub watched : Circuit → List ℕ
+watched c = c .lamps ++ c .bads
+
+unfoldable pub watchedIn : Circuit → Cube → Cube
+watchedIn c a = readings ternary c (watched c) (switchesUnknown c) a
+
+-- some value is 0
+unfoldable pub someLow : Cube → Bool
+someLow [] = false
+someLow (v ∷ vs) = alike v low || someLow vs
+
+-- some constraint is 0 in a cube: no legal execution is there
+unfoldable pub blocked : Circuit → Cube → Bool
+blocked c a = someLow (constraints ternary c (switchesUnknown c) a)
 
 -- a reset as a field: X where there is no start value
 unfoldable pub startField : ℕ → Three
@@ -72,12 +88,12 @@ search cubes zero b = nowhere
 search cubes (suc n) b =
     elim (search cubes n b) [ at j ↦ at j | nowhere ↦ elim (subsumes (cubes n) b) [ true ↦ at n | false ↦ nowhere ] ]
 
--- a run stops with n cubes, closed back to j below n (j = n is kept for one that ends), or has no room for the next cube
+-- a run stops with n cubes, closed back to j below n or, where j = n, ended; or it has no room for the next cube
 pub data Ending : Type 0 where
   stops : ℕ → ℕ → Ending
   full : Ending
 
--- with one cube more, by where b falls
+-- with one cube more, by where b goes
 unfoldable pub stepped : ℕ → Ending → Found → Ending
 stepped n (stops m j) f = stops m j
 stepped n full f = elim f [ at j ↦ stops n j | nowhere ↦ full ]
@@ -92,13 +108,13 @@ module _ (c : Circuit) (w : ℕ) where
   unfoldable pub cubeAt : ℕ → Cube
   cubeAt k = stage k .cube
 
-  -- where b after cube number k falls, among the cubes up to k
+  -- where b after cube number k goes: to number k + 1, which is an end, where a constraint is 0 in it, else to the first of the cubes up to k that subsumes it
   unfoldable pub back : ℕ → Found
-  back k = search cubeAt (suc k) (reached c (stage k))
+  back k = let b : Cube = reached c (stage k) in cond (blocked c b) (at (suc k)) (search cubeAt (suc k) b)
 
-  -- the run with room for so many cubes
+  -- the run with room for so many cubes; where a constraint is 0 in cube 0 it ends with none
   unfoldable pub run : ℕ → Ending
-  run zero = full
+  run zero = cond (blocked c (start c)) (stops 0 0) full
   run (suc k) = stepped (suc k) (run k) (back k)
 
 -- the merge of cubes k, k + 1, .., k + more: what is known alike in all of them
@@ -110,10 +126,10 @@ merge cubes k (suc more) = merged (merge cubes k more) (cubes (k + suc more))
 unfoldable pub mergeFrom : Cube → (ℕ → Cube) → ℕ → ℕ → Cube
 mergeFrom none cubes k n = elim n [ zero ↦ none | suc more ↦ merge cubes k more ]
 
--- per lamp never (low) if 0 in all n cubes, always (high) if 1 in all, else open (unknown); with no cube never
+-- per lamp and bad state never (low) if 0 in all n cubes, always (high) if 1 in all, else open (unknown); with no cube never
 unfoldable pub verdict : Circuit → (ℕ → Cube) → ℕ → Cube
-verdict c cubes n = mergeFrom (replicate (length (c .lamps)) low) (λ k. lampsIn c (cubes k)) 0 n
+verdict c cubes n = mergeFrom (replicate (length (watched c)) low) (λ k. watchedIn c (cubes k)) 0 n
 
--- the merge of the loop's cubes, j to n − 1: per latch the value that all of them know alike, else unknown; where j = n there are none of these
+-- the merge of the loop's cubes, j to n − 1: per latch the value that all of them know alike, else unknown; an ended run, where j = n, has none of these and settles nothing
 unfoldable pub settled : Circuit → (ℕ → Cube) → ℕ → ℕ → Cube
 settled c cubes n j = mergeFrom (replicate (length (c .latches)) unknown) cubes j (n - j)

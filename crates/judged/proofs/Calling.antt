@@ -11,17 +11,16 @@ use Rattle.three.specs.Cube.{Cube, knownFields}
 use Rattle.three.specs.Record.{bytesFor, pack}
 use Rattle.three.proofs.Pack.{length-pack}
 use Rattle.circuit.specs.Refusal.{refusal}
+use Rattle.circuit.specs.Table.{verdicts}
 use Rattle.circuit.proofs.Refusals.{refused-old, accepted-new}
 use Rattle.cubes.specs.Given.{isChain}
 use Rattle.cubes.specs.GivenInCode.{givenTests}
 use Rattle.cubes.specs.Judge.{JudgeGiven, circuitIn, cubesIn, judgeTests, verdictFields, settledFields, Judged}
 use Rattle.cubes.proofs.Buffered.{verdict-sized}
 use Rattle.cubes.proofs.Chains.{chain-parts}
-use Rattle.cubes.proofs.Given.{given-passes}
 use Rattle.cubes.proofs.Judging.{cubes-refuse, no-chain, verdict-short, settled-short, judge-passes}
-use Rattle.judge.specs.JudgeInCode.{Settleable, settledFrom}
+use Rattle.judge.specs.JudgeInCode.{settledFrom}
 use Rattle.judge.proofs.Judging.{settled-of}
-use Rattle.cubes.specs.Buffer.{cubeBytes}
 use Rattle.judged.specs.JudgedInCode.{ChainFound, Written}
 
 module _ (g : JudgeGiven) where
@@ -36,7 +35,7 @@ module _ (g : JudgeGiven) where
       passed : 0 ≡ refusal (givenTests (g .counts) (g .table) (g .cubes) (g .n))
       passed = sym ok ∙ is
 
-      module _ {r : Bool} {lamps lamps′ : List ℕ} (found : ChainFound (g .counts) (g .table) (g .cubes) (g .n) (g .j) lamps r lamps′) where
+      module _ {r : Bool} {seen seen′ : List ℕ} (found : ChainFound (g .counts) (g .table) (g .cubes) (g .n) (g .j) seen r seen′) where
         decided : r ≡ isChain (circuitIn g) (cubesIn g) (g .n) (g .j)
         unfolding circuitIn cubesIn
         decided = found .decides
@@ -44,29 +43,27 @@ module _ (g : JudgeGiven) where
         pub chain-refused : r ≡ false → Judged g (record { number = 19; settled = 0 }) (g .verdict) (g .settled)
         chain-refused f = refused (no-chain g passed (sym decided ∙ f)) (λ z. omega arith)
 
-        module _ (closed : r ≡ true) where
+        module _ (holds : r ≡ true) where
           chain : isChain (circuitIn g) (cubesIn g) (g .n) (g .j) ≡ true
-          chain = sym decided ∙ closed
+          chain = sym decided ∙ holds
 
-          pub settleable : Settleable (g .counts .latches) (cubeBytes (g .counts .latches)) (g .n) (g .j) (g .cubes)
-          settleable =
-              let are = given-passes (g .counts) (g .table) (g .cubes) (g .n) passed in
-              record { few = are .0 .bounded .latches; size = are .1 .size; below = chain-parts _ _ _ _ chain .0; fits = are .1 .fits; cube = are .1 .cube }
+          pub chain-within : g .j ≤ g .n
+          chain-within = chain-parts _ _ _ _ chain .0
 
-          pub verdict-refused : length (g .verdict) < bytesFor (g .counts .lamps) → Judged g (record { number = 10; settled = 0 }) (g .verdict) (g .settled)
+          pub verdict-refused : length (g .verdict) < bytesFor (verdicts (g .counts)) → Judged g (record { number = 10; settled = 0 }) (g .verdict) (g .settled)
           verdict-refused h = refused (verdict-short g passed chain h) (λ z. omega arith)
 
-          module _ (fits : bytesFor (g .counts .lamps) ≤ length (g .verdict)) where
+          module _ (fits : bytesFor (verdicts (g .counts)) ≤ length (g .verdict)) where
             pub settled-refused : length (g .settled) < bytesFor (g .counts .latches) → Judged g (record { number = 10; settled = 0 }) (g .verdict) (g .settled)
             settled-refused h = refused (settled-short g passed chain fits h) (λ z. omega arith)
 
             -- ---- accepted
 
-            lamps-are : lamps′ ≡ over (pack (verdictFields g)) lamps
+            seen-are : seen′ ≡ over (pack (verdictFields g)) seen
             unfolding verdictFields circuitIn cubesIn
-            lamps-are = found .judges closed
+            seen-are = found .judges holds
 
-            packed : length (pack (verdictFields g)) ≡ bytesFor (g .counts .lamps)
+            packed : length (pack (verdictFields g)) ≡ bytesFor (verdicts (g .counts))
             unfolding verdictFields circuitIn
             packed = rw (length-pack, verdict-sized (g .counts) (g .table) (cubesIn g) (g .n))
 
@@ -74,15 +71,15 @@ module _ (g : JudgeGiven) where
             unfolding settledFields circuitIn cubesIn
             latches-are = settled-of (g .counts) (g .table) (g .cubes) (g .n) (g .j)
 
-            pub accepted : bytesFor (g .counts .latches) ≤ length (g .settled) → {s : ℕ} {verdict settled : List ℕ} → Written (g .counts) (g .cubes) (g .n) (g .j) lamps′ (g .verdict) (g .settled) s verdict settled
+            pub accepted : bytesFor (g .counts .latches) ≤ length (g .settled) → {s : ℕ} {verdict settled : List ℕ} → Written (g .counts) (g .cubes) (g .n) (g .j) seen′ (g .verdict) (g .settled) s verdict settled
                 → Judged g (record { number = 0; settled = s }) verdict settled
             unfolding over
             accepted room written = record {
               answers = judge-passes g passed chain fits room;
               settles = written .counts ∙ ap knownFields latches-are ∙ accepted-new 0 _ _ refl;
               fills-verdict =
-                  let front : take (bytesFor (g .counts .lamps)) lamps′ ≡ pack (verdictFields g) = ap (take (bytesFor (g .counts .lamps))) lamps-are ∙ take-at (pack (verdictFields g)) _ _ packed in
-                  let rest : 0 + bytesFor (g .counts .lamps) ≡ length (pack (verdictFields g)) = omega (arith, packed) in
+                  let front : take (bytesFor (verdicts (g .counts))) seen′ ≡ pack (verdictFields g) = ap (take (bytesFor (verdicts (g .counts)))) seen-are ∙ take-at (pack (verdictFields g)) _ _ packed in
+                  let rest : 0 + bytesFor (verdicts (g .counts)) ≡ length (pack (verdictFields g)) = omega (arith, packed) in
                   written .copies ∙ ap₂ (λ (x : List ℕ) (m : ℕ). x ++ drop m (g .verdict)) front rest ∙ accepted-new 0 _ _ refl;
               fills-settled = written .settles ∙ ap (λ (v : Cube). over (pack v) (g .settled)) latches-are ∙ accepted-new 0 _ _ refl;
             }

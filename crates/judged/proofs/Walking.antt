@@ -1,10 +1,12 @@
 -- Cube 0 against the resets, and each next state against the cube that comes after: byte by byte what the definition says. Assumes nothing.
-use mathlib.Core.Path.{_≡_, sym, ap, ap₂, _∙_}
-use mathlib.Core.Bool.{Bool, true, false, false≢true}
+use mathlib.Core.Path.{_≡_, refl, sym, ap, ap₂, _∙_}
+use mathlib.Core.Bool.{Bool, true, false, _||_, false≢true}
 use mathlib.Core.List.{List}
 use Prim.Native.Nat.{ℕ, _+_, _*_, _<_, _≤_}
-use native.Mathlib.Nat.{zero-add, zero-mul}
+use native.Mathlib.Nat.{zero-add, zero-mul, mul-le-mul-right}
 use native.Mathlib.Omega.{arith}
+use borrow.Author.Tests.{ltb-true}
+use lib.Dec.{ltb}
 use lib.ListN.{length, getD, drop, replicate}
 use lib.Seq.{paste}
 use Rattle.three.specs.Lists.{every, over}
@@ -13,19 +15,19 @@ use Rattle.three.specs.Record.{bytesFor, byteAt, pack}
 use Rattle.three.proofs.Lists.{every-all, every-fails}
 use Rattle.circuit.specs.declared.Counts.{Counts}
 use Rattle.circuit.specs.Circuit.{Circuit}
-use Rattle.circuit.specs.Table.{circuitOf}
+use Rattle.circuit.specs.Table.{verdicts, circuitOf}
 use Rattle.circuit.specs.RulesInCode.{Legal}
 use Rattle.pass.specs.ValuesInCode.{valuesOf, literalValues}
-use Rattle.cubes.specs.Run.{nextCube, lampsIn, start}
+use Rattle.cubes.specs.Run.{nextCube, watchedIn, blocked, start}
 use Rattle.cubes.specs.Buffer.{cubeBytes, cubeOf, cubeIn}
 use Rattle.cubes.specs.BufferInCode.{longestCube, IsCube, Cubes, markOf}
-use Rattle.cubes.specs.Given.{same, onward, goesOn}
+use Rattle.cubes.specs.Given.{same, onward, goesTo, goesOn}
 use Rattle.cubes.proofs.StoredCube.{cube-of-sized, cube-at}
 use Rattle.cubes.proofs.Marks.{no-mark, cube-covers}
 use Rattle.cubes.proofs.Held.{Bytes, padded-byte}
 use Rattle.cubes.proofs.Storing.{cube-place}
 use Rattle.cubes.proofs.Buffered.{next-counted}
-use Rattle.cubes.proofs.Chains.{onward-below}
+use Rattle.cubes.proofs.Places.{onward-within}
 use Rattle.stored.specs.CubesInCode.{startFields, raisedBytes, coversFrom, Settled}
 use Rattle.stored.proofs.Starting.{start-fields, start-sized}
 use Rattle.stored.proofs.Reaching.{next-bytes}
@@ -33,7 +35,7 @@ use Rattle.stored.proofs.Inside.{bytes-at, covers-at}
 use Rattle.stored.proofs.Raising.{front-byte, length-raised, raised-bytes}
 use Rattle.judge.specs.JudgeInCode.{Judgeable, Settleable}
 use Rattle.judge.proofs.Passing.{Passing, all-passed, all-judged}
-use Rattle.judged.specs.JudgedInCode.{Walked}
+use Rattle.judged.specs.JudgedInCode.{andThen, goesInto, Walked}
 
 -- ---- the same cube
 
@@ -82,9 +84,33 @@ module _ (c : Counts) (words cubes : List ℕ) (small : (i : ℕ) → getD cubes
   next-inside legal state sized t b settled stored to cube e =
       e ∙ covers-at (c .latches) len size cubes small to cube b (nextCube circuit state) (next-counted c words state) (next-bytes c words legal state sized t settled b stored len)
 
+-- ---- inside, or a constraint is 0
+
+pub then-not : (b : Bool) {a : Bool} → a ≡ false → false ≡ andThen a b
+unfolding andThen
+then-not b e = rw e
+
+pub then-asked : {a b r : Bool} → a ≡ true → r ≡ b → r ≡ andThen a b
+unfolding andThen
+then-asked e f = rw e f
+
+pub then-same : (a b b′ : Bool) {r : Bool} → r ≡ andThen a b → (a ≡ true → b ≡ b′) → r ≡ andThen a b′
+unfolding andThen
+then-same true b b′ e f = e ∙ f refl
+then-same false b b′ e f = e
+
+module _ (c : Circuit) (inside : Bool) (a b : Cube) {l : Bool} (lies : l ≡ andThen inside (subsumes a b)) where
+  pub goes-inside : l ≡ true → true ≡ goesInto c inside a b
+  unfolding goesInto
+  goes-inside e = ap (λ (x : Bool). x || blocked c b) (sym e ∙ lies)
+
+  pub goes-blocked : l ≡ false → {r : Bool} → r ≡ blocked c b → r ≡ goesInto c inside a b
+  unfolding goesInto
+  goes-blocked e f = f ∙ ap (λ (x : Bool). x || blocked c b) (sym e ∙ lies)
+
 -- the cubes from j on, by the length as the code has it
-pub settleable : (latches n j : ℕ) (cubes : List ℕ) → Settleable latches (cubeBytes latches) n j cubes → {len : ℕ} → len ≡ cubeBytes latches → Settleable latches len n j cubes
-settleable latches n j cubes s e = rw e s
+pub settleable : (latches n j : ℕ) (cubes : List ℕ) → latches ≤ 512 → Cubes latches (cubeBytes latches) n cubes → j < n → {len : ℕ} → len ≡ cubeBytes latches → Settleable latches len n j cubes
+settleable latches n j cubes few are below e = rw e (record { few = few; size = are .size; below = below; fits = are .fits; cube = are .cube })
 
 -- ---- the walk
 
@@ -96,7 +122,7 @@ module _ (c : Counts) (words : List ℕ) (n : ℕ) (cubes : List ℕ) where
   of-length j e = rw e j
 
 module _ (c : Counts) (words : List ℕ) (n j : ℕ) (cubes : List ℕ) where
-  -- the next state of cube number k lies inside the cube that comes after
+  -- the next state of cube number k goes to the cube that comes after
   abbrev pub follows : ℕ → Bool
   follows = goesOn (circuitOf c words) (cubeIn (c .latches) cubes) n j
 
@@ -106,23 +132,28 @@ module _ (c : Counts) (words : List ℕ) (n j : ℕ) (cubes : List ℕ) where
 module _ (c : Counts) (words : List ℕ) (len n j : ℕ) (cubes : List ℕ) where
   module _ (given : Judgeable c words len n cubes) where
     -- as the code asks it, at the bytes where the two cubes stand
-    pub asked : (k : ℕ) {m : ℕ} {r : Bool} → m ≡ onward n j k → r ≡ subsumes (cubeOf (c .latches) (drop (m * len) cubes)) (nextCube (circuitOf c words) (cubeOf (c .latches) (drop (k * len) cubes))) → r ≡ follows c words n j cubes k
-    unfolding goesOn
-    asked k {m} is e =
-        e ∙ ap₂ (λ (a b : Cube). subsumes a (nextCube (circuitOf c words) b)) (cube-at (c .latches) (given .size) cubes m ∙ ap (cubeIn (c .latches) cubes) is) (cube-at (c .latches) (given .size) cubes k)
+    -- b after cube number m, which is a
+    abbrev goes : ℕ → Cube → Cube → Bool
+    goes m a b = goesInto (circuitOf c words) (ltb m n) a (nextCube (circuitOf c words) b)
 
-    pub asked-first : {m : ℕ} {r : Bool} → m ≡ onward n j 0 → r ≡ subsumes (cubeOf (c .latches) (drop (m * len) cubes)) (nextCube (circuitOf c words) (cubeOf (c .latches) cubes)) → r ≡ follows c words n j cubes 0
+    pub asked : (k : ℕ) {m : ℕ} {r : Bool} → m ≡ onward n j k → r ≡ goes m (cubeOf (c .latches) (drop (m * len) cubes)) (cubeOf (c .latches) (drop (k * len) cubes)) → r ≡ follows c words n j cubes k
+    unfolding goesOn goesTo goesInto andThen
+    asked k {m} is e =
+        e ∙ ap₂ (goes m) (cube-at (c .latches) (given .size) cubes m) (cube-at (c .latches) (given .size) cubes k)
+        ∙ ap (λ (i : ℕ). goes i (cubeIn (c .latches) cubes i) (cubeIn (c .latches) cubes k)) is
+
+    pub asked-first : {m : ℕ} {r : Bool} → m ≡ onward n j 0 → r ≡ goes m (cubeOf (c .latches) (drop (m * len) cubes)) (cubeOf (c .latches) cubes) → r ≡ follows c words n j cubes 0
     asked-first is e = asked 0 is (rw zero-mul e)
 
-    -- the cube that comes after stands in the buffer
-    pub after-place : (k : ℕ) → j < n → {m : ℕ} → m ≡ onward n j k → m * len + cubeBytes (c .latches) ≤ length cubes
-    after-place k below {m} is = omega (arith, cube-place n len m (length cubes) (rw is (onward-below n j k below)) (given .fits), given .size)
+    -- the cube that comes after stands in the buffer, where there is one
+    pub after-product : (k : ℕ) → j ≤ n → {m : ℕ} → m ≡ onward n j k → m * len ≤ length cubes
+    after-product k within {m} is = omega (arith, mul-le-mul-right len (rw (← is) at (onward-within n j k within)), given .fits)
 
-    pub after-cube : (k : ℕ) → j < n → {m : ℕ} → m ≡ onward n j k → IsCube (c .latches) (drop (m * len) cubes)
-    after-cube k below is = given .cube _ (rw is (onward-below n j k below))
+    pub after-cube : (m : ℕ) → ltb m n ≡ true → (m * len + cubeBytes (c .latches) ≤ length cubes) × IsCube (c .latches) (drop (m * len) cubes)
+    after-cube m e = let h = ltb-true m n e in (omega (arith, cube-place n len m (length cubes) h (given .fits), given .size), given .cube m h)
 
-  module _ (entry : List ℕ) (fits : bytesFor (c .lamps) ≤ length entry) (begun : List ℕ) (first : begun ≡ over (pack (lampsIn (circuitOf c words) (cubeOf (c .latches) cubes))) entry)
-      {verdict values lamps : List ℕ} {k : ℕ} (p : Passing c words len n cubes (follows c words n j cubes) begun verdict values lamps k) where
+  module _ (entry : List ℕ) (fits : bytesFor (verdicts c) ≤ length entry) (begun : List ℕ) (first : begun ≡ over (pack (watchedIn (circuitOf c words) (cubeOf (c .latches) cubes))) entry)
+      {verdict values seen : List ℕ} {k : ℕ} (p : Passing c words len n cubes (follows c words n j cubes) begun verdict values seen k) where
     pub walked-all : n ≤ k → Walked c words cubes n j entry true verdict
     walked-all h = record {
       follows = sym (every-all n (follows c words n j cubes) (all-passed c words len n cubes (follows c words n j cubes) entry fits begun first p h));

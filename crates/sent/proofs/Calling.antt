@@ -1,6 +1,6 @@
 -- The public cover: what it answers and leaves where it is refused, at each of its numbers, and where it is accepted. Assumes nothing.
 use mathlib.Core.Path.{_≡_, refl, sym, ap, ap₂, _∙_}
-use mathlib.Core.Bool.{Bool, true, false, not, cond}
+use mathlib.Core.Bool.{Bool, true, false, cond}
 use mathlib.Core.List.{List, [], _∷_, _++_}
 use Prim.Native.Nat.{ℕ, _+_, _<_, _≤_}
 use native.Mathlib.Omega.{arith}
@@ -13,8 +13,8 @@ use Rattle.three.specs.Record.{bytesFor, pack}
 use Rattle.three.proofs.Lists.{by-test, every-at}
 use Rattle.three.proofs.Pack.{length-pack}
 use Rattle.circuit.specs.Refusal.{Test, refusal}
-use Rattle.circuit.specs.Table.{ceilingTests, wordTests, boardTests, circuitOf, lampTests}
-use Rattle.circuit.proofs.Refusals.{refused-old, accepted-new, past}
+use Rattle.circuit.specs.Table.{ceilingTests, wordTests, boardTests, verdicts, circuitOf, lampTests}
+use Rattle.circuit.proofs.Refusals.{refused-old, accepted-new}
 use Rattle.cubes.specs.Run.{start}
 use Rattle.cubes.specs.Buffer.{cubeIn}
 use Rattle.cubes.specs.Given.{cubeTests, covered, nextCovered, firstUncovered}
@@ -69,7 +69,7 @@ module _ (g : SentGiven) where
         starts : covered (circuitOf (g .counts) (g .table)) (cubeIn (g .counts .latches) (g .cubes)) (g .n) (start (circuitOf (g .counts) (g .table))) ≡ true
         starts = sym found ∙ inside
 
-        module _ {cube : ℕ} {lamps lamps′ : List ℕ} (walked : Walked (g .counts) (g .table) (g .cubes) (g .n) lamps cube lamps′) where
+        module _ {cube : ℕ} {seen seen′ : List ℕ} (walked : Walked (g .counts) (g .table) (g .cubes) (g .n) seen cube seen′) where
           cube-is : cube ≡ uncovered
           unfolding circuitIn cubesIn
           cube-is = walked .names
@@ -82,7 +82,7 @@ module _ (g : SentGiven) where
             follows : every (g .n) (nextCovered (circuitIn g) (cubesIn g) (g .n)) ≡ true
             follows = uncovered-passes _ _ (g .n) (rw cube-is at all)
 
-            pub verdict-refused : length (g .verdict) < bytesFor (g .counts .lamps) → Sent g (record { number = 10; cube = 0 }) (g .verdict)
+            pub verdict-refused : length (g .verdict) < bytesFor (verdicts (g .counts)) → Sent g (record { number = 10; cube = 0 }) (g .verdict)
             unfolding circuitIn cubesIn
             verdict-refused h = refused (verdict-short g passed starts follows h) (λ z. omega arith) refl
 
@@ -91,22 +91,22 @@ module _ (g : SentGiven) where
             whole : cube ≡ g .n
             whole = cube-is ∙ sym (uncovered-none _ _ (g .n) (every-at (g .n) (nextCovered (circuitIn g) (cubesIn g) (g .n)) follows))
 
-            pub lamps-are : lamps′ ≡ over (pack (verdictFields g)) lamps
+            pub seen-are : seen′ ≡ over (pack (verdictFields g)) seen
             unfolding verdictFields circuitIn cubesIn
-            lamps-are = walked .judges whole
+            seen-are = walked .judges whole
 
-            packed : length (pack (verdictFields g)) ≡ bytesFor (g .counts .lamps)
+            packed : length (pack (verdictFields g)) ≡ bytesFor (verdicts (g .counts))
             unfolding verdictFields circuitIn
             packed = rw (length-pack, verdict-sized (g .counts) (g .table) (cubesIn g) (g .n))
 
-            pub accepted : {len : ℕ} {verdict : List ℕ} → len ≡ bytesFor (g .counts .lamps) → bytesFor (g .counts .lamps) ≤ length (g .verdict) → verdict ≡ paste (g .verdict) 0 lamps′ len
+            pub accepted : {len : ℕ} {verdict : List ℕ} → len ≡ bytesFor (verdicts (g .counts)) → bytesFor (verdicts (g .counts)) ≤ length (g .verdict) → verdict ≡ paste (g .verdict) 0 seen′ len
                 → Sent g (record { number = 0; cube = 0 }) verdict
             unfolding circuitIn cubesIn over
             accepted {len} e fits copied = record {
               answers = sent-passes g passed starts follows fits;
               names = refl;
               fills-verdict =
-                  let front : take len lamps′ ≡ pack (verdictFields g) = ap (take len) lamps-are ∙ take-at (pack (verdictFields g)) _ len (packed ∙ sym e) in
+                  let front : take len seen′ ≡ pack (verdictFields g) = ap (take len) seen-are ∙ take-at (pack (verdictFields g)) _ len (packed ∙ sym e) in
                   let rest : 0 + len ≡ length (pack (verdictFields g)) = omega (arith, packed) in
                   copied ∙ ap₂ (λ (x : List ℕ) (m : ℕ). x ++ drop m (g .verdict)) front rest ∙ accepted-new 0 _ _ refl;
             }

@@ -2,6 +2,7 @@ pub mod Refusing
 pub mod Promising
 pub mod Determined
 pub mod Unmarked
+pub mod Empty
 pub mod Own
 pub mod Walking
 pub mod Passing

@@ -1,17 +1,19 @@
--- The cubes that a closed chain leaves, sent with their table and their number, are accepted, and the verdict is the judge's. Assumes nothing.
+-- The cubes that a chain leaves, closed or ended, sent with their table and their number, are accepted, and the verdict is the judge's. Assumes nothing.
 use mathlib.Core.Path.{_≡_, sym, _∙_}
 use mathlib.Core.List.{List}
 use Prim.Native.Nat.{ℕ, _≤_}
 use lib.ListN.{length}
 use Rattle.three.specs.Record.{bytesFor, unpack}
 use Rattle.circuit.specs.Refusal.{refusal}
+use Rattle.circuit.specs.Table.{verdicts}
 use Rattle.circuit.specs.RulesInCode.{Passed}
 use Rattle.cubes.specs.declared.ChainAnswer.{ChainAnswer}
 use Rattle.cubes.specs.declared.JudgeAnswer.{JudgeAnswer}
 use Rattle.cubes.specs.Chain.{ChainGiven, Chained, roomIn, outcomeIn, circuitIn as boardIn}
 use Rattle.cubes.specs.Given.{coverTests}
 use Rattle.cubes.specs.Judge.{Judged, verdictFields as judgedFields, circuitIn as judgedIn, cubesIn as judgedCubes}
-use Rattle.cubes.proofs.Covering.{test-cover, cover-test, cover-same, run-passes}
+use Rattle.cubes.proofs.Cover.{cover-same}
+use Rattle.cubes.proofs.Covering.{test-cover, cover-test, run-passes}
 use Rattle.cubes.proofs.Chaining.{outcome-is, cube-is}
 use Rattle.cubes.proofs.Own.{relit-self, own-board, own-given}
 use Rattle.cubes.proofs.Promising.{verdict-is as judged-verdict}
@@ -25,7 +27,7 @@ module _ (g : ChainGiven) (r : ChainAnswer) (cubes : List ℕ) (chained : Chaine
   abbrev pub sends : List ℕ → SentGiven
   sends lent = record { counts = g .counts; table = g .table; cubes = cubes; n = r .cubes; verdict = lent }
 
-  module _ (lent : List ℕ) (fits : bytesFor (g .counts .lamps) ≤ length lent) where
+  module _ (lent : List ℕ) (fits : bytesFor (verdicts (g .counts)) ≤ length lent) where
     all-covered : Passed (coverTests (circuitIn (sends lent)) (cubesIn (sends lent)) (r .cubes))
     unfolding circuitIn cubesIn boardIn outcomeIn
     all-covered =
@@ -44,6 +46,6 @@ module _ (g : ChainGiven) (r : ChainAnswer) (cubes : List ℕ) (chained : Chaine
 
       -- whatever the judge leaves of the same chain
       pub own-verdict : (verdict₀ settled₀ : List ℕ) (p : JudgeAnswer) (verdict settled : List ℕ)
-          → Judged (record { counts = g .counts; table = g .table; cubes = cubes; n = r .cubes; j = r .back; verdict = verdict₀; settled = settled₀ }) p verdict settled → p .number ≡ 0 → unpack (g .counts .lamps) verdict′ ≡ unpack (g .counts .lamps) verdict
+          → Judged (record { counts = g .counts; table = g .table; cubes = cubes; n = r .cubes; j = r .back; verdict = verdict₀; settled = settled₀ }) p verdict settled → p .number ≡ 0 → unpack (verdicts (g .counts)) verdict′ ≡ unpack (verdicts (g .counts)) verdict
       unfolding boardIn verdictFields circuitIn cubesIn judgedFields judgedIn judgedCubes
       own-verdict verdict₀ settled₀ p verdict settled judged done = sent-verdict (sends lent) q verdict′ sent (own-number .0) ∙ sym (judged-verdict _ p verdict settled judged done)

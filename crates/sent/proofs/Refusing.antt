@@ -1,6 +1,6 @@
 -- The refusals of a sent cover in order, and what holds where none is given. Assumes nothing.
-use mathlib.Core.Path.{_≡_, sym, _∙_}
-use mathlib.Core.Bool.{Bool, true, false}
+use mathlib.Core.Path.{_≡_}
+use mathlib.Core.Bool.{true, false}
 use mathlib.Core.List.{List}
 use Prim.Native.Nat.{ℕ, _<_, _≤_}
 use native.Mathlib.Omega.{arith}
@@ -8,17 +8,15 @@ use borrow.Author.Tests.{le-leb, lt-leb}
 use lib.ListN.{length}
 use Rattle.three.specs.Lists.{every}
 use Rattle.three.specs.Record.{bytesFor}
-use Rattle.three.specs.Cube.{Cube}
 use Rattle.circuit.specs.declared.Counts.{Counts}
-use Rattle.circuit.specs.Circuit.{Circuit}
 use Rattle.circuit.specs.Refusal.{refusal}
+use Rattle.circuit.specs.Table.{verdicts}
 use Rattle.circuit.specs.RulesInCode.{Passed}
 use Rattle.circuit.proofs.Refusals.{Numbered, stops, past, none, passes, none-append}
 use Rattle.cubes.specs.Run.{start}
 use Rattle.cubes.specs.Buffer.{cubeBytes}
 use Rattle.cubes.specs.Given.{covered, nextCovered, coverTests}
 use Rattle.cubes.specs.GivenInCode.{givenTests}
-use Rattle.cubes.proofs.Covering.{covered-some}
 use Rattle.cubes.proofs.Given.{given-refuses as refuses-given, given-passes, past-given, behind-given}
 use Rattle.sent.specs.SentInCode.{Sendable}
 use Rattle.sent.specs.Call.{SentGiven, circuitIn, cubesIn, verdictTests, sentTests}
@@ -26,10 +24,6 @@ use Rattle.sent.specs.Call.{SentGiven, circuitIn, cubesIn, verdictTests,
 -- what holds before the cubes are looked into
 pub sendable : (c : Counts) (table cubes : List ℕ) (n : ℕ) → 0 ≡ refusal (givenTests c table cubes n) → Sendable c table (cubeBytes (c .latches)) n cubes
 sendable c table cubes n ok = let are = given-passes c table cubes n ok in record { legal = are .0; stand = are .1 }
-
--- where something lies inside there is a cube
-pub some-cube : (c : Circuit) (cubes : ℕ → Cube) (n : ℕ) (b : Cube) {r : Bool} → r ≡ covered c cubes n b → r ≡ true → 1 ≤ n
-some-cube c cubes n b e h = covered-some _ _ _ _ (sym e ∙ h)
 
 module _ (g : SentGiven) where
   abbrev number : ℕ
@@ -50,13 +44,13 @@ module _ (g : SentGiven) where
       next-outside h = past-given _ _ _ _ _ ok (past _ _ starts (stops _ _ h))
 
       module _ (follows : every (g .n) (nextCovered (circuitIn g) (cubesIn g) (g .n)) ≡ true) where
-        pub verdict-short : length (g .verdict) < bytesFor (g .counts .lamps) → 10 ≡ number
+        pub verdict-short : length (g .verdict) < bytesFor (verdicts (g .counts)) → 10 ≡ number
         unfolding sentTests coverTests verdictTests
-        verdict-short h = past-given _ _ _ _ _ ok (past _ _ starts (past _ _ follows (stops _ _ (lt-leb (bytesFor (g .counts .lamps)) (length (g .verdict)) h))))
+        verdict-short h = past-given _ _ _ _ _ ok (past _ _ starts (past _ _ follows (stops _ _ (lt-leb (bytesFor (verdicts (g .counts))) (length (g .verdict)) h))))
 
-        pub sent-passes : bytesFor (g .counts .lamps) ≤ length (g .verdict) → 0 ≡ number
+        pub sent-passes : bytesFor (verdicts (g .counts)) ≤ length (g .verdict) → 0 ≡ number
         unfolding sentTests coverTests verdictTests
-        sent-passes h = past-given _ _ _ _ _ ok (past _ _ starts (past _ _ follows (past _ _ (le-leb (bytesFor (g .counts .lamps)) (length (g .verdict)) h) none)))
+        sent-passes h = past-given _ _ _ _ _ ok (past _ _ starts (past _ _ follows (past _ _ (le-leb (bytesFor (verdicts (g .counts))) (length (g .verdict)) h) none)))
 
   covers-numbered : Numbered (coverTests (circuitIn g) (cubesIn g) (g .n))
   unfolding coverTests

@@ -11,7 +11,7 @@ use Rattle.three.specs.Record.{bytesFor, pack}
 use Rattle.circuit.specs.declared.Counts.{Counts}
 use Rattle.circuit.specs.Circuit.{Circuit}
 use Rattle.circuit.specs.Refusal.{Test, _or_, refusal, leftBy}
-use Rattle.circuit.specs.Table.{circuitOf, boardTests}
+use Rattle.circuit.specs.Table.{verdicts, circuitOf, boardTests}
 use Rattle.cubes.specs.Run.{verdict as verdictOf}
 use Rattle.cubes.specs.Buffer.{cubeIn}
 use Rattle.cubes.specs.Given.{cubeTests, coverTests, firstUncovered}
@@ -35,7 +35,7 @@ module _ (g : SentGiven) where
 
   -- 10 for the verdict
   unfoldable pub verdictTests : List Test
-  verdictTests = leb (bytesFor (g .counts .lamps)) (length (g .verdict)) or 10 ∷ []
+  verdictTests = leb (bytesFor (verdicts (g .counts))) (length (g .verdict)) or 10 ∷ []
 
   -- 3, 16, 10 for the table, 11, 10 for the cubes, 14, 17, 18, 10 for the verdict
   unfoldable pub sentTests : List Test

@@ -1,6 +1,6 @@
 // The public cover: cubes worked out elsewhere, sent with their table (specification, 5.11).
 use circuit::Counts;
-use judge::LONGEST_LAMPS;
+use judge::LONGEST_VERDICT;
 use pass::Values;
 use stored::LONGEST_CUBE;
 ghost use mathlib.Core.Path.{_≡_};
@@ -8,9 +8,9 @@ ghost use Prim.Native.Nat.{_+_, _*_, _-_, _<_, _≤_};
 ghost use lib.ListN.{length, drop};
 ghost use Rattle.three.specs.Lists.{over};
 ghost use Rattle.three.specs.Record.{bytesFor, pack};
-ghost use Rattle.circuit.specs.Table.{circuitOf};
+ghost use Rattle.circuit.specs.Table.{verdicts, circuitOf};
 ghost use Rattle.circuit.specs.RulesInCode.{Legal};
-ghost use Rattle.cubes.specs.Run.{nextCube, lampsIn, start as startOf};
+ghost use Rattle.cubes.specs.Run.{nextCube, watchedIn, start as startOf};
 ghost use Rattle.cubes.specs.Buffer.{cubeBytes, cubeOf, cubeIn};
 ghost use Rattle.cubes.specs.BufferInCode.{IsCube, Cubes};
 ghost use Rattle.cubes.specs.Given.{covered};
@@ -19,19 +19,22 @@ ghost use Rattle.sent.specs.Call.{Sent};
 ghost use Rattle.sent.specs.Promise.{Keeps};
 ghost use Rattle.sent.specs.SentInCode.{Sendable, Walked};
 
-// The start lies inside one of the n cubes.
-fn start_inside(counts: Counts, table: &[u16], cubes: &[u8], n: usize) -> bool
+// The start lies inside one of the n cubes, or needs no cover, a constraint being 0 in it.
+fn start_covered(counts: Counts, table: &[u16], cubes: &[u8], n: usize) -> bool
     requires { ⌜ Sendable counts (now table) (cubeBytes (counts .latches)) n (now cubes) ⌝ }
     ensures { λ r. ⌜ r ≡ covered (circuitOf counts (now (table .entry))) (cubeIn (counts .latches) (now (cubes .entry))) n (startOf (circuitOf counts (now (table .entry)))) ⌝ }
 {
     let mut start = [0u8; LONGEST_CUBE];
     stored::store_start(table, counts.latches, &mut start);
     let len = stored::cube_bytes(counts.latches);
-    stored::find(cubes, len, n, &start) < n
+    if stored::find(cubes, len, n, &start) < n {
+        return true;
+    }
+    stored::start_blocked(counts, table)
 }
 
-// One pass over the cube at byte `at`: its lamps into `lamps`; and its next state lies inside one of the n cubes.
-fn next_inside(
+// One pass over the cube at byte `at`: its lamps and bad states into `seen`; and its next state lies inside one of the n cubes, or needs no cover.
+fn next_covered(
     counts: Counts,
     table: &[u16],
     cubes: &[u8],
@@ -39,18 +42,21 @@ fn next_inside(
     n: usize,
     at: usize,
     values: &mut Values,
-    lamps: &mut [u8],
+    seen: &mut [u8],
 ) -> bool
-    requires { ⌜ Sendable counts (now table) len n (now cubes) × (at ≤ length (now cubes)) × IsCube (counts .latches) (drop at (now cubes)) × SwitchesX counts (now values) × (bytesFor (counts .lamps) ≤ length (now lamps)) ⌝ }
-    ensures { λ r. ⌜ (r ≡ covered (circuitOf counts (now (table .entry))) (cubeIn (counts .latches) (now (cubes .entry))) n (nextCube (circuitOf counts (now (table .entry))) (cubeOf (counts .latches) (drop at (now (cubes .entry)))))) × SwitchesX counts (now (values .exit)) × (now (lamps .exit) ≡ over (pack (lampsIn (circuitOf counts (now (table .entry))) (cubeOf (counts .latches) (drop at (now (cubes .entry)))))) (now (lamps .entry))) ⌝ }
+    requires { ⌜ Sendable counts (now table) len n (now cubes) × (at ≤ length (now cubes)) × IsCube (counts .latches) (drop at (now cubes)) × SwitchesX counts (now values) × (bytesFor (verdicts counts) ≤ length (now seen)) ⌝ }
+    ensures { λ r. ⌜ (r ≡ covered (circuitOf counts (now (table .entry))) (cubeIn (counts .latches) (now (cubes .entry))) n (nextCube (circuitOf counts (now (table .entry))) (cubeOf (counts .latches) (drop at (now (cubes .entry)))))) × SwitchesX counts (now (values .exit)) × (now (seen .exit) ≡ over (pack (watchedIn (circuitOf counts (now (table .entry))) (cubeOf (counts .latches) (drop at (now (cubes .entry)))))) (now (seen .entry))) ⌝ }
 {
-    judge::lamps_at(counts, table, cubes, at, values, lamps);
+    judge::watched_at(counts, table, cubes, at, values, seen);
     let mut next = [0u8; LONGEST_CUBE];
     pass::store(values, table, 0, 2, counts.latches, &mut next);
-    stored::find(cubes, len, n, &next) < n
+    if stored::find(cubes, len, n, &next) < n {
+        return true;
+    }
+    stored::blocked(counts, table, &next, values)
 }
 
-// The first of the n cubes whose next state lies inside none of them, or n; `verdict` then has what the lamps are in all of them.
+// The first of the n cubes whose next state is not covered, or n; `verdict` then has what the lamps and bad states are in all of them, never where there is none.
 fn first_uncovered(
     counts: Counts,
     table: &[u16],
@@ -58,17 +64,22 @@ fn first_uncovered(
     n: usize,
     verdict: &mut [u8],
 ) -> usize
-    requires { ⌜ Sendable counts (now table) (cubeBytes (counts .latches)) n (now cubes) × (1 ≤ n) × (bytesFor (counts .lamps) ≤ length (now verdict)) ⌝ }
+    requires { ⌜ Sendable counts (now table) (cubeBytes (counts .latches)) n (now cubes) × (bytesFor (verdicts counts) ≤ length (now verdict)) ⌝ }
     ensures { λ r. ⌜ Walked counts (now (table .entry)) (now (cubes .entry)) n (now (verdict .entry)) r (now (verdict .exit)) ⌝ }
 {
-    let len = stored::cube_bytes(counts.latches);
-    let mut values = pass::fresh_values();
-    if !next_inside(counts, table, cubes, len, n, 0, &mut values, verdict) {
+    let fields = circuit::verdicts(counts);
+    if n == 0 {
+        judge::fill_record(fields, 1, verdict);
         return 0;
     }
-    let mut lamps = [0u8; LONGEST_LAMPS];
+    let len = stored::cube_bytes(counts.latches);
+    let mut values = pass::fresh_values();
+    if !next_covered(counts, table, cubes, len, n, 0, &mut values, verdict) {
+        return 0;
+    }
+    let mut seen = [0u8; LONGEST_VERDICT];
     for k in 1..n {
-        if !next_inside(
+        if !next_covered(
             counts,
             table,
             cubes,
@@ -76,11 +87,11 @@ fn first_uncovered(
             n,
             k * len,
             &mut values,
-            &mut lamps,
+            &mut seen,
         ) {
             return k;
         }
-        three::agree(verdict, &lamps, counts.lamps);
+        three::agree(verdict, &seen, fields);
     }
     n
 }
@@ -106,24 +117,24 @@ pub fn cover(
     if number != 0 {
         return CoverAnswer { number, cube: 0 };
     }
-    if !start_inside(counts, table, cubes, n) {
+    if !start_covered(counts, table, cubes, n) {
         return CoverAnswer {
             number: 17,
             cube: 0,
         };
     }
-    let mut lamps = [0u8; LONGEST_LAMPS];
-    let cube = first_uncovered(counts, table, cubes, n, &mut lamps);
+    let mut seen = [0u8; LONGEST_VERDICT];
+    let cube = first_uncovered(counts, table, cubes, n, &mut seen);
     if cube < n {
         return CoverAnswer { number: 18, cube };
     }
-    let len = three::record_length(counts.lamps);
+    let len = three::record_length(circuit::verdicts(counts));
     if verdict.len() < len {
         return CoverAnswer {
             number: 10,
             cube: 0,
         };
     }
-    judge::copy_record(&lamps, 0, len, verdict);
+    judge::copy_record(&seen, 0, len, verdict);
     CoverAnswer { number: 0, cube: 0 }
 }

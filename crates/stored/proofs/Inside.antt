@@ -1,19 +1,16 @@
 -- Cubes that are given, byte by byte: what the search finds among them is what the definition finds. Assumes nothing.
 use mathlib.Core.Path.{_≡_, sym, ap, _∙_}
-use mathlib.Core.Bool.{true, false}
+use mathlib.Core.Bool.{Bool, true}
 use mathlib.Core.List.{List}
-use Prim.Native.Nat.{ℕ, _+_, _*_, _<_}
-use borrow.Author.Tests.{ltb-true, ltb-false}
-use lib.Dec.{ltb}
+use Prim.Native.Nat.{ℕ, _+_, _*_, _<_, _≤_}
 use lib.ListN.{length, getD, drop}
 use lib.Seq.{getD-drop}
 use Rattle.three.specs.Lists.{first}
 use Rattle.three.specs.Value.{code}
 use Rattle.three.specs.Cube.{Cube, subsumes}
 use Rattle.three.proofs.First.{first-ext}
-use Rattle.three.proofs.Lists.{by-test}
 use Rattle.circuit.specs.Circuit.{Circuit}
-use Rattle.cubes.specs.Run.{Found, at, nowhere}
+use Rattle.cubes.specs.Run.{Found, at, nowhere, blocked}
 use Rattle.cubes.specs.Buffer.{cubeBytes, cubeIn, cubeOf}
 use Rattle.cubes.specs.BufferInCode.{Cubes, IsCube, markOf}
 use Rattle.cubes.specs.Given.{covered}
@@ -43,12 +40,18 @@ module _ (latches len n : ℕ) (cubes : List ℕ) (are : Cubes latches len n cub
     given-covers k h =
         covers-at latches len (are .size) cubes small (k * len) (are .cube k h) b v sized is ∙ ap (λ (a : Cube). subsumes a v) (cube-at latches (are .size) cubes k)
 
-    -- and the search is the definition's
-    pub found-inside : (c : Circuit) {j : ℕ} → j ≡ first n (λ k. coversFrom len cubes (raisedBytes len 3 b) (k * len)) → ltb j n ≡ covered c (cubeIn latches cubes) n v
-    unfolding covered
-    found-inside c {j} e =
-        let same = e ∙ first-ext n _ (λ k. subsumes (cubeIn latches cubes k) v) given-covers in
-        let looked = search-first (cubeIn latches cubes) v n in
-        by-test (ltb j n)
-        (λ t. t ∙ sym (ap (λ (f : Found). elim f [ at k ↦ true | nowhere ↦ false ]) (looked .0 (rw same at (ltb-true j n t)))))
-        (λ t. t ∙ sym (ap (λ (f : Found). elim f [ at k ↦ true | nowhere ↦ false ]) (looked .1 (rw same at (ltb-false j n t)))))
+    -- and the search is the definition's: what it finds is covered, and where it finds nothing a constraint decides
+    module _ (c : Circuit) {j : ℕ} (e : j ≡ first n (λ k. coversFrom len cubes (raisedBytes len 3 b) (k * len))) where
+      same : j ≡ first n (λ k. subsumes (cubeIn latches cubes k) v)
+      same = e ∙ first-ext n _ (λ k. subsumes (cubeIn latches cubes k) v) given-covers
+
+      decides : Found → Bool
+      decides f = elim f [ at k ↦ true | nowhere ↦ blocked c v ]
+
+      pub found-inside : j < n → true ≡ covered c (cubeIn latches cubes) n v
+      unfolding covered decides
+      found-inside h = sym (ap decides (search-first (cubeIn latches cubes) v n .0 (rw same at h)))
+
+      pub found-nowhere : n ≤ j → {r : Bool} → r ≡ blocked c v → r ≡ covered c (cubeIn latches cubes) n v
+      unfolding covered decides
+      found-nowhere h is = is ∙ sym (ap decides (search-first (cubeIn latches cubes) v n .1 (rw same at h)))

@@ -6,3 +6,4 @@ pub mod Searching
 pub mod Reaching
 pub mod Judged
 pub mod Inside
+pub mod Constraining

@@ -1,5 +1,6 @@
 -- A working table with all switches X serves pass after pass: each gives the circuit's values for the state that was loaded. Assumes nothing.
 use mathlib.Core.Path.{_≡_, sym, ap, _∙_}
+use mathlib.Core.Bool.{Bool}
 use mathlib.Core.List.{List, _∷_, _++_}
 use Prim.Native.Nat.{ℕ, _+_, _-_, _≤_}
 use native.Mathlib.Omega.{arith}
@@ -16,12 +17,12 @@ use Rattle.three.proofs.Pack.{unpack-over}
 use Rattle.three.proofs.Soundness.{record-over}
 use Rattle.circuit.specs.declared.Counts.{Counts}
 use Rattle.circuit.specs.Circuit.{Circuit, pass, settle}
-use Rattle.circuit.specs.Table.{circuitOf, literalsAt}
+use Rattle.circuit.specs.Table.{verdicts, circuitOf, literalsAt, constraintsAt}
 use Rattle.circuit.specs.RulesInCode.{Legal}
 use Rattle.circuit.proofs.Pass.{length-pass, pass-front}
 use Rattle.pass.specs.ValuesInCode.{valuesOf, Begins, literalValues}
-use Rattle.pass.proofs.Settling.{switches-settle, next-stored, lamps-stored}
-use Rattle.cubes.specs.Run.{switchesUnknown, nextCube, lampsIn}
+use Rattle.pass.proofs.Settling.{switches-settle, next-stored, verdicts-stored, constraints-stored}
+use Rattle.cubes.specs.Run.{switchesUnknown, nextCube, watched, watchedIn, someLow, blocked}
 use Rattle.cubes.specs.HeldInCode.{keptByte}
 use Rattle.stored.specs.CubesInCode.{keptBytes, SwitchesX, Settled}
 use Rattle.cubes.specs.Buffer.{cubeBytes, cubeOf}
@@ -93,8 +94,12 @@ module _ (c : Counts) (words : List ℕ) (legal : Legal c words) (state : Cube) 
   reach-stored settled held next b b′ len el en eb =
       eb ∙ rw (el, next-packed settled _ next en, kept-padded (cubeBytes (c .latches)) held (nextCube circuit state))
 
-  -- ---- the lamps that are stored from a pass
+  -- ---- what gets a verdict, stored from a pass, and the constraints, read from it
 
-  pub lamps-reached : Settled c words state t → literalValues (valuesOf t) words (literalsAt c) 1 (c .lamps) ≡ lampsIn circuit state
-  unfolding lampsIn
-  lamps-reached settled = lamps-stored c words legal (switchesUnknown circuit) state unknown-sized sized t settled
+  pub watched-reached : Settled c words state t → literalValues (valuesOf t) words (literalsAt c) 1 (verdicts c) ≡ watchedIn circuit state
+  unfolding watchedIn watched
+  watched-reached settled = verdicts-stored c words legal (switchesUnknown circuit) state unknown-sized sized t settled
+
+  pub blocked-reached : Settled c words state t → {r : Bool} → r ≡ someLow (literalValues (valuesOf t) words (constraintsAt c) 1 (c .constraints)) → r ≡ blocked circuit state
+  unfolding blocked
+  blocked-reached settled e = e ∙ ap someLow (constraints-stored c words legal (switchesUnknown circuit) state unknown-sized sized t settled)

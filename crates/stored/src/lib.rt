@@ -1,4 +1,4 @@
-// Cubes in a buffer: cube 0, the next state of a stored cube, the search (specification, 5.1 to 5.3).
+// Cubes in a buffer: cube 0, the next state of a stored cube, constraints, the search (specification, 5.1 to 5.3).
 use circuit::Counts;
 use pass::Values;
 ghost use mathlib.Core.Path.{_≡_};
@@ -10,9 +10,10 @@ ghost use Rattle.three.specs.Value.{unknown, code};
 ghost use Rattle.three.specs.Record.{bytesFor, byteAt, pack, unpack};
 ghost use Rattle.three.specs.RecordInCode.{knownTable, IsRecord};
 ghost use Rattle.circuit.specs.Refusal.{refusal};
-ghost use Rattle.circuit.specs.Table.{circuitOf};
+ghost use Rattle.circuit.specs.Table.{constraintsAt, circuitOf};
 ghost use Rattle.circuit.specs.RulesInCode.{Bounded, Legal};
-ghost use Rattle.cubes.specs.Run.{nextCube};
+ghost use Rattle.pass.specs.ValuesInCode.{valuesOf, Working, literalValues};
+ghost use Rattle.cubes.specs.Run.{nextCube, someLow, blocked as isBlocked, start as startOf};
 ghost use Rattle.cubes.specs.Buffer.{cubeBytes, cubeOf, soundCube, soundIn};
 ghost use Rattle.cubes.specs.BufferInCode.{longestCube, IsCube, raisedByte, loweredByte};
 ghost use Rattle.cubes.specs.HeldInCode.{keptByte};
@@ -138,9 +139,9 @@ fn kept(byte: u8, held: u8) -> u8
 }
 
 // The record b with held latches set to X, into the front of `out`.
-pub fn store_kept(b: &[u8], held: [u8; LONGEST_CUBE], len: usize, out: &mut [u8])
-    requires { ⌜ (len ≤ longestCube) × (len ≤ length (now b)) × (len ≤ length (now out)) ⌝ }
-    ensures { λ _. ⌜ now (out .exit) ≡ paste (now (out .entry)) 0 (keptBytes len held (now (b .entry))) len ⌝ }
+pub fn store_kept(b: &[u8], held: &[u8], len: usize, out: &mut [u8])
+    requires { ⌜ (len ≤ length (now held)) × (len ≤ length (now b)) × (len ≤ length (now out)) ⌝ }
+    ensures { λ _. ⌜ now (out .exit) ≡ paste (now (out .entry)) 0 (keptBytes len (now (held .entry)) (now (b .entry))) len ⌝ }
 {
     for i in 0..len {
         out[i] = kept(b[i], held[i]);
@@ -197,17 +198,58 @@ pub fn settle_cube(counts: Counts, table: &[u16], cubes: &[u8], at: usize, value
     pass::settle_state(counts, table, &state, values);
 }
 
+// Some constraint is 0 in the values that a pass left.
+fn constraint_low(counts: Counts, table: &[u16], values: &Values) -> bool
+    requires { ⌜ Legal counts (now table) × Working (now values) ⌝ }
+    ensures { λ r. ⌜ r ≡ someLow (literalValues (valuesOf (now (values .entry))) (now (table .entry)) (constraintsAt counts) 1 (counts .constraints)) ⌝ }
+{
+    let first = circuit::constraints_at(counts);
+    let signs = pass::sign_table();
+    for i in 0..counts.constraints {
+        if pass::literal(&signs, values, table[first + i]) == 1 {
+            return true;
+        }
+    }
+    false
+}
+
+// Some constraint is 0 in a cube whose latches are given as a record, with all switches X; where there is none no pass is made.
+pub fn blocked(counts: Counts, table: &[u16], latches: &[u8], values: &mut Values) -> bool
+    requires { ⌜ Legal counts (now table) × IsRecord (counts .latches) (now latches) × SwitchesX counts (now values) ⌝ }
+    ensures { λ r. ⌜ (r ≡ isBlocked (circuitOf counts (now (table .entry))) (unpack (counts .latches) (now (latches .entry)))) × SwitchesX counts (now (values .exit)) ⌝ }
+{
+    if counts.constraints == 0 {
+        return false;
+    }
+    pass::settle_state(counts, table, latches, values);
+    constraint_low(counts, table, values)
+}
+
+// Some constraint is 0 in cube 0.
+pub fn start_blocked(counts: Counts, table: &[u16]) -> bool
+    requires { ⌜ Legal counts (now table) ⌝ }
+    ensures { λ r. ⌜ r ≡ isBlocked (circuitOf counts (now (table .entry))) (startOf (circuitOf counts (now (table .entry)))) ⌝ }
+{
+    if counts.constraints == 0 {
+        return false;
+    }
+    let mut start = [0u8; LONGEST_CUBE];
+    store_start(table, counts.latches, &mut start);
+    let mut values = pass::fresh_values();
+    blocked(counts, table, &start, &mut values)
+}
+
 // The run's b after a cube: the next state of its latches, which are given as a record, with held latches set to X.
 pub fn reach(
     counts: Counts,
     table: &[u16],
     last: &[u8],
-    held: [u8; LONGEST_CUBE],
+    held: &[u8],
     values: &mut Values,
     b: &mut [u8; LONGEST_CUBE],
 )
-    requires { ⌜ Legal counts (now table) × IsRecord (counts .latches) (now last) × SwitchesX counts (now values) × (length (now b) ≡ longestCube) ⌝ }
-    ensures { λ _. ⌜ SwitchesX counts (now (values .exit)) × (now (b .exit) ≡ paste (now (b .entry)) 0 (keptBytes (cubeBytes (counts .latches)) held (pack (nextCube (circuitOf counts (now (table .entry))) (unpack (counts .latches) (now (last .entry)))))) (cubeBytes (counts .latches))) ⌝ }
+    requires { ⌜ Legal counts (now table) × IsRecord (counts .latches) (now last) × (cubeBytes (counts .latches) ≤ length (now held)) × SwitchesX counts (now values) × (length (now b) ≡ longestCube) ⌝ }
+    ensures { λ _. ⌜ SwitchesX counts (now (values .exit)) × (now (b .exit) ≡ paste (now (b .entry)) 0 (keptBytes (cubeBytes (counts .latches)) (now (held .entry)) (pack (nextCube (circuitOf counts (now (table .entry))) (unpack (counts .latches) (now (last .entry)))))) (cubeBytes (counts .latches))) ⌝ }
 {
     pass::settle_state(counts, table, last, values);
     let mut next = [0u8; LONGEST_CUBE];

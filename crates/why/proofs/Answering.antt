@@ -29,7 +29,7 @@ module _ (c : Counts) (table : List ℕ) (lamp : ℕ) (legal : Legal c table) (h
   literal-is = literal-word c table lamp h ∙ ap (λ n. getD table (n + lamp) 0) (sym place) ∙ sym read
 
   pub lamp-within : x ≤ top c
-  lamp-within = rw (read, place) (legal .literal lamp h)
+  lamp-within = rw (read, place) (legal .literal lamp (omega arith))
 
   pub lamp-small : x < 8192
   lamp-small = omega (arith, lamp-within, legal .bounded)

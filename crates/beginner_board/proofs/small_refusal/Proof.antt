@@ -12,4 +12,6 @@ small-refusal-spec =
     (λ c. too-large _ (λ b. omega arith))
     (λ c. too-large _ (λ b. omega arith))
     (λ c. too-large _ (λ b. omega arith))
+    (λ c. too-large _ (λ b. omega arith))
+    (λ c. too-large _ (λ b. omega arith))
     (λ c. small-passes _ (omega arith)))

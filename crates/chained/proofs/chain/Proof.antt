@@ -1,8 +1,8 @@
--- `chained::chain` meets its contract: refused, with no room for a cube more, or closed. Assumes nothing.
+-- `chained::chain` meets its contract: refused, with no room for a cube more, or stopped. Assumes nothing.
 use mathlib.Core.Path.{sym, _∙_}
 use borrow.Author.Tests.{not-true, not-false}
 use Rattle.chained.proofs.Refusing.{accepted-chain}
-use Rattle.chained.proofs.Calling.{chain-refused, chain-full, chain-closed}
+use Rattle.chained.proofs.Calling.{chain-refused, chain-full, chain-stopped}
 use Rattle.cubes.proofs.Chaining.{closing}
 use Rattle.cubes.proofs.Trusted.{singles}
 use borrow.Author.Needs.{needs}
@@ -27,7 +27,7 @@ returns-2 c =
 returns-3 : tie.Need-returns-3
 returns-3 c =
     let none = sym (c .before .before .before .before .before .before .if1 .left) ∙ c .before .before .before .before .before .before .before .chain-refusal .ensures in
-    let chained = chain-closed _ none _ _ (c .before .before .before .before .make-chain .ensures) (not-false _ (c .if2 .left)) in
+    let chained = chain-stopped _ none _ _ (c .before .before .before .before .make-chain .ensures) (not-false _ (c .if2 .left)) in
     (chained, closing _ _ _ chained, singles _ _ _ chained)
 
 pub chain-spec : {M : Type 1} → statement M

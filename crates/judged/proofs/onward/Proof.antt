@@ -2,7 +2,7 @@
 use mathlib.Core.Path.{sym, _∙_}
 use native.Mathlib.Numerals.{add-one}
 use native.Mathlib.Omega.{arith}
-use Rattle.cubes.proofs.Chains.{onward-inner, onward-last}
+use Rattle.cubes.proofs.Places.{onward-inner, onward-last}
 use borrow.Author.Needs.{needs}
 use Rattle.judged.proofs.onward.Statement.{statement}
 use Rattle.judged.proofs.onward.Tie as tie

@@ -1,32 +1,21 @@
--- `judged::write_results` meets its contract: the lamps are copied, the latches merged and counted. Assumes nothing.
+-- `judged::write_results` meets its contract: what was read is copied, and the latches are settled. Assumes nothing.
 use mathlib.Core.Path.{ap, _∙_}
 use Prim.Native.Nat.{ℕ}
 use lib.Seq.{paste}
-use Rattle.judge.proofs.Judging.{settled-record-of, settled-known}
-use Rattle.judged.proofs.Walking.{settleable}
-use native.Mathlib.Omega.{arith}
+use Rattle.three.specs.Record.{bytesFor}
 use borrow.Author.Needs.{needs}
 use Rattle.judged.proofs.write_results.Statement.{statement}
 use Rattle.judged.proofs.write_results.Tie as tie
 
-settle-latches-requires : tie.Need-settle-latches-requires
-settle-latches-requires c κs =
-    let pre = c .before .before .before .before .before .before .before .before .before .before .before .pre in
-    (settleable _ _ _ _ (pre .0) (c .before .cube-bytes .ensures), pre .3)
-
-known-fields-requires : tie.Need-known-fields-requires
-known-fields-requires c κs =
-    let pre = c .before .before .before .before .before .before .before .before .before .before .before .before .before .before .before .pre in
-    (omega (arith, pre .0 .few), settled-record-of _ _ _ _ _ (c .before .before .before .settle-latches .ensures) (pre .3))
-
 returns : tie.Need-returns
 returns c =
-    let start = c .before .before .before .before .before .before .before .before .before .before .before .before .before .before .before .before in
-    let settled = c .before .before .before .before .settle-latches .ensures in
+    let start = c .before .before .before .before .before .before .before .before .before .before .before .before .before .before in
+    let long = c .before .before .before .before .before .before .before .before .record-length .ensures ∙ ap bytesFor (c .before .before .before .before .before .before .before .before .before .verdicts .ensures) in
+    let settled = c .before .before .settle .ensures in
     record {
-      copies = c .before .before .before .before .before .before .before .before .before .copy-record .ensures ∙ ap (λ (len : ℕ). paste (start .args .verdict .now) 0 (start .args .lamps .now) len) (c .before .before .before .before .before .before .before .before .before .before .before .record-length .ensures);
-      settles = settled;
-      counts = settled-known _ _ _ _ _ settled (c .known-fields .ensures);
+      copies = c .before .before .before .before .before .before .copy-record .ensures ∙ ap (λ (len : ℕ). paste (start .args .verdict .now) 0 (start .args .watched .now) len) long;
+      settles = settled .0;
+      counts = settled .1;
     }
 
 pub write-results-spec : {M : Type 1} → statement M
@@ -36,8 +25,7 @@ write-results-spec =
     (λ c κs. search needs)
     (λ c κs. search needs)
     (λ c κs. search needs)
-    settle-latches-requires
-    known-fields-requires
+    (λ c κs. search needs)
     (λ c. search needs)
     (λ c. search needs)
     returns)

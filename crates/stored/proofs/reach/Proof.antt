@@ -10,18 +10,18 @@ use Rattle.stored.proofs.reach.Tie as tie
 
 store-requires : tie.Need-store-requires
 store-requires c κs =
-    let pre = c .before .before .before .before .before .before .pre in
+    let pre = c .before .before .before .before .before .before .before .pre in
     (next-readable _ _ (pre .0), c .before .before .settle-state .ensures .working, omega arith, omega (arith, pre .0 .bounded))
 
 store-kept-requires : tie.Need-store-kept-requires
 store-kept-requires c κs =
-    let pre = c .before .before .before .before .before .before .before .before .before .before .before .pre in
+    let pre = c .before .before .before .before .before .before .before .before .before .before .before .before .pre in
     search (needs, few-bytes (pre .0 .bounded .latches))
 
 returns : tie.Need-returns
 returns c =
-    let pre = c .before .before .before .before .before .before .before .before .before .before .before .before .pre in
-    let settled = state-settles _ _ _ _ _ (pre .2) (c .before .before .before .before .before .before .before .before .settle-state .ensures) in
+    let pre = c .before .before .before .before .before .before .before .before .before .before .before .before .before .pre in
+    let settled = state-settles _ _ _ _ _ (pre .3) (c .before .before .before .before .before .before .before .before .settle-state .ensures) in
     (ready-again _ _ _ _ settled, reach-stored _ _ (pre .0) _ (length-unpack _ _) _ settled _ _ _ _ _ (c .before .before .cube-bytes .ensures) (c .before .before .before .before .before .store .ensures) (c .store-kept .ensures))
 
 pub reach-spec : {M : Type 1} → statement M

@@ -8,18 +8,18 @@ use Rattle.stored.proofs.store_kept.Statement.{statement}
 use Rattle.stored.proofs.store_kept.Tie as tie
 
 abbrev Inv-loop : tie.InvT-loop
-Inv-loop b len out₀ held i₀ out i = Stored out₀ 0 (keptBytes len held b) len out i
+Inv-loop b held len out₀ i₀ out i = Stored out₀ 0 (keptBytes len held b) len out i
 
 abbrev μ-loop : tie.MeasureT-loop
-μ-loop b len out₀ held i₀ out i = len - i
+μ-loop b held len out₀ i₀ out i = len - i
 
 loop-holds : tie.Need-loop-holds Inv-loop μ-loop
 loop-holds c = stored-first _ _ _ _
 
 loop-again : tie.Need-loop-again Inv-loop μ-loop
 loop-again c =
-    let turn = c .before .before in
-    kept-next _ _ _ _ (c .before .before .before .before .before .before .pre .2) _ _ _ (turn .before .loop .inv) (turn .loop-test .taken) (c .kept .ensures)
+    let turn = c .before .before .before in
+    kept-next _ _ _ _ (c .before .before .before .before .before .before .before .before .pre .2) _ _ _ (turn .before .loop .inv) (turn .loop-test .taken) (c .kept .ensures)
 
 same-length : tie.Need-same-length Inv-loop μ-loop
 same-length c = c .before .loop .inv .long

@@ -8,12 +8,12 @@ use Rattle.chain.proofs.Progress.advance.Tie as tie
 
 returns : tie.Need-returns
 returns c =
-    let start = c .before .before .before .before .before .before .before .before .before .before .before .before .before .before .before in
+    let start = c .before .before .before .before .before .before .before .before .before .before .before .before .before .before .before .before .before .before .before in
     record {
       counts = refl;
-      holds = c .before .before .before .before .before .before .before .before .before .held-after .ensures ∙ due-held _ _ _ _ (c .before .before .before .before .before .before .before .before .before .before .before .before .due .ensures);
+      holds = c .before .before .before .before .before .before .before .before .before .before .before .before .held-after .ensures ∙ due-held _ _ _ _ (c .before .before .before .before .before .before .before .before .before .before .before .before .before .before .before .before .due .ensures);
       keeps = c .before .before .before .before .before .before .before .store-kept .ensures;
-      stores = stored-marked (start .args .cubes .now) _ (start .args .self .count * start .args .len) (start .args .len) _ (c .before .before .store-cube .ensures) (c .before .before .before .before .before .mark .ensures) (c .before .before .before .before .before .before .before .before .before .before .before .before .due .ensures);
+      stores = stored-marked (start .args .cubes .now) _ (start .args .t1 .count * start .args .len) (start .args .len) _ (c .before .before .store-cube .ensures) (c .before .before .before .before .before .mark .ensures) (c .before .before .before .before .before .before .before .before .before .before .before .before .before .before .before .before .due .ensures);
     }
 
 pub advance-spec : {M : Type 1} → statement M
@@ -21,6 +21,7 @@ advance-spec =
     tie.close
     (tie.spec
     (λ c κs. search needs)
+    (λ c. search needs)
     (λ c κs. search needs)
     (λ c. search needs)
     (λ c κs. search needs)
