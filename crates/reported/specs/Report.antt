@@ -1,8 +1,10 @@
 -- The report (specification, 6): what is printed for the bytes on standard input. In a quoted text `/` stands for byte 10. Assumes nothing.
 use mathlib.Core.Path.{_≡_}
+use mathlib.Core.Bool.{cond}
 use mathlib.Core.List.{List, _++_}
 use Prim.Native.Nat.{ℕ, _≤_}
-use lib.ListN.{length}
+use lib.Dec.{eqb}
+use lib.ListN.{length, take, drop}
 use Rattle.three.specs.Lists.{over}
 use Rattle.three.specs.Cube.{Cube, knownFields}
 use Rattle.circuit.specs.Circuit.{Circuit}
@@ -16,17 +18,27 @@ use Rattle.reporting.specs.Reporting.{refusing, ofText}
 unfoldable pub closing : ℕ → ℕ → ℕ → List ℕ
 closing n j s = item (bytes "cubes ") n ++ (item (bytes " back ") j ++ (item (bytes " settled ") s ++ bytes "/"))
 
--- closure with n, j, s; then each lamp; then each latch
-unfoldable pub closedReport : ℕ → ℕ → Cube → Cube → List ℕ
-closedReport n j lamps latches = closing n j (knownFields latches) ++ (rows Row.Lamp 0 lamps ++ rows Row.Latch 0 latches)
+-- the line on an end
+unfoldable pub ending : ℕ → List ℕ
+ending n = item (bytes "cubes ") n ++ bytes " ended/"
+
+-- the first line: a run that stops with j = n has ended, any other has closed
+unfoldable pub opening : ℕ → ℕ → ℕ → List ℕ
+opening n j s = cond (eqb j n) (ending n) (closing n j s)
+
+-- the first line; then each lamp, the first so many of the verdict; then each bad state; then each latch
+unfoldable pub stopReport : ℕ → ℕ → ℕ → Cube → Cube → List ℕ
+stopReport n j lamps verdict latches =
+    opening n j (knownFields latches) ++ (rows Row.Lamp 0 (take lamps verdict) ++ (rows Row.Bad 0 (drop lamps verdict) ++ rows Row.Latch 0 latches))
 
 -- the outcome of a circuit's run with w = 16
-unfoldable pub ended : Circuit → Ending → List ℕ
-ended c e = elim e [ stops n j ↦ closedReport n j (verdict c (cubeAt c 16) n) (settled c (cubeAt c 16) n j) | full ↦ refusing 15 ]
+unfoldable pub runReport : Circuit → Ending → List ℕ
+runReport c e =
+    elim e [ stops n j ↦ stopReport n j (length (c .lamps)) (verdict c (cubeAt c 16) n) (settled c (cubeAt c 16) n j) | full ↦ refusing 15 ]
 
 -- the report on a text
 unfoldable pub reportOf : List ℕ → List ℕ
-reportOf text = ofText ended text
+reportOf text = ofText runReport text
 
 -- The contract of the report: how many bytes it has, and the buffer at exit; the bytes beyond stay.
 pub record Reported (text buffer : List ℕ) (bytes : ℕ) (buffer′ : List ℕ) : Type 0 where

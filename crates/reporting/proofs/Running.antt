@@ -26,7 +26,7 @@ module _ (counts : Counts) (table : List ℕ) (accepts : 0 ≡ refusal (circuitT
   bounded : Bounded counts
   bounded = legal counts table accepts .bounded
 
-  -- before 15 the chain is refused for want of a lamp, or not at all
+  -- before 15 the chain is refused for want of a lamp or bad state, or not at all
   refused-is : refusedBy given ≡ refusal (lampTests counts)
   unfolding refusedBy
   refused-is = sym (board-decides counts table accepts ∙ board-alone counts table 16 (length cubes) (omega arith) (omega (arith, few-bytes (bounded .latches), c)) (omega (arith, c)))
@@ -50,7 +50,7 @@ module _ (counts : Counts) (table : List ℕ) (accepts : 0 ≡ refusal (circuitT
         go zero ok = let is = only-full given r cubes′ chained ok h in rw (report-is say, ok, is .0, is .1) (sym fifteen)
         go (suc k) e = rw (report-is say, e, number-is e)
 
-    -- one that is not has closed
-    pub chain-closed : (say : Saying) → r .number ≡ 0 → ofRun say (record { counts = counts; words = table }) ≡ say (circuitIn given) (stops (r .cubes) (r .back))
+    -- one that is not has stopped, closed or ended
+    pub chain-stopped : (say : Saying) → r .number ≡ 0 → ofRun say (record { counts = counts; words = table }) ≡ say (circuitIn given) (stops (r .cubes) (r .back))
     unfolding leftBy
-    chain-closed say closed = rw (report-is say, says given r cubes′ chained closed .0, outcome-is given r cubes′ chained closed)
+    chain-stopped say stopped = rw (report-is say, says given r cubes′ chained stopped .0, outcome-is given r cubes′ chained stopped)

@@ -5,8 +5,8 @@ ghost use lib.ListN.{length};
 ghost use Rattle.putting.specs.PutInCode.{Put};
 ghost use Rattle.reporting.specs.Reporting.{refusing};
 
-// The table of any circuit fits: 2 × 512 + 64 + 2 × 3,327 words.
-pub const TABLE_WORDS: usize = 7742;
+// The table of any circuit fits: 2 × 512 + 3 × 64 + 2 × 3,327 words.
+pub const TABLE_WORDS: usize = 7870;
 
 // One byte more than the longest text that is read.
 pub const DECIDING_BYTES: usize = 60001;

@@ -1,2 +1,3 @@
 pub mod Sizes
 pub mod Framing
+pub mod Sending

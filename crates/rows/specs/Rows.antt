@@ -1,4 +1,4 @@
--- The rows of a report (specification, 6): a line for each lamp and each latch. In a quoted text `/` stands for byte 10. Assumes nothing.
+-- The rows of a report (specification, 6): a line for each lamp, each bad state and each latch. In a quoted text `/` stands for byte 10. Assumes nothing.
 use mathlib.Core.List.{List, [], _∷_, _++_}
 use Prim.Native.Nat.{ℕ, suc, _/_}
 use Rattle.three.specs.Value.{Three, unknown, low, high}
@@ -15,9 +15,14 @@ item name n = name ++ decimal n
 unfoldable pub said : List ℕ → List ℕ → List ℕ → Three → List ℕ
 said off on either v = elim v [ low ↦ off | high ↦ on | unknown ↦ either ]
 
--- the line of lamp or latch number i
+-- a verdict's word
+abbrev pub verdictSaid : Three → List ℕ
+verdictSaid v = said (bytes " never/") (bytes " always/") (bytes " open/") v
+
+-- the line of lamp, bad state or latch number i
 unfoldable pub row : Row → ℕ → Three → List ℕ
-row Row.Lamp i v = item (bytes "lamp ") i ++ said (bytes " never/") (bytes " always/") (bytes " open/") v
+row Row.Lamp i v = item (bytes "lamp ") i ++ verdictSaid v
+row Row.Bad i v = item (bytes "bad ") i ++ verdictSaid v
 row Row.Latch i v = item (bytes "latch ") i ++ said (bytes " 0/") (bytes " 1/") (bytes " -/") v
 
 -- a line for each field, numbered from i on

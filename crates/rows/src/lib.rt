@@ -1,16 +1,18 @@
 // The rows of a report, put into a buffer (specification, 6).
 ghost use Prim.Native.Nat.{_+_, _*_, _≤_, _<_};
-ghost use lib.ListN.{length};
+ghost use mathlib.Core.List.{_++_};
+ghost use lib.ListN.{length, drop};
 ghost use Rattle.three.specs.Value.{decode};
 ghost use Rattle.three.specs.Record.{unpack};
 ghost use Rattle.putting.specs.PutInCode.{Put};
 ghost use Rattle.rows.specs.declared.Row.{Row};
-ghost use Rattle.rows.specs.Rows.{item, said, row as rowText, rows};
+ghost use Rattle.rows.specs.Rows.{item, said, verdictSaid, row as rowText, rows};
 ghost use Rattle.text.specs.Decimal.{decimal};
 
 // What a line of the report is about.
 pub enum Row {
     Lamp,
+    Bad,
     Latch,
 }
 
@@ -59,16 +61,24 @@ pub fn put_said(out: &mut [u8], at: usize, field: u8, off: &[u8], on: &[u8], eit
     put_bytes(out, at, on)
 }
 
-// Each lamp, numbered from 0, with never, always or open; then each latch, numbered from 0, with its settled value, 0 or 1, or `-`: the line of number i.
+// A name with its number, and never, always or open.
+fn put_verdict(out: &mut [u8], at: usize, name: &[u8], i: usize, field: u8) -> usize
+    requires { ⌜ at + length (now name) + 28 ≤ length (now out) ⌝ }
+    ensures { λ r. ⌜ Put (now (out .entry)) at (item (now (name .entry)) i ++ verdictSaid (decode field)) (now (out .exit)) r × (r ≤ at + length (now (name .entry)) + 28) ⌝ }
+{
+    let word = put_item(out, at, name, i);
+    put_said(out, word, field, b" never\n", b" always\n", b" open\n")
+}
+
+// Each lamp, numbered from 0, with never, always or open; then each bad state alike; then each latch, numbered from 0, with its settled value, 0 or 1, or `-`:
+// the line of number i.
 pub fn put_row(out: &mut [u8], at: usize, row: Row, i: usize, field: u8) -> usize
     requires { ⌜ at + 34 ≤ length (now out) ⌝ }
     ensures { λ r. ⌜ Put (now (out .entry)) at (rowText row i (decode field)) (now (out .exit)) r × (r ≤ at + 34) ⌝ }
 {
     match row {
-        Row::Lamp => {
-            let word = put_item(out, at, b"lamp ", i);
-            put_said(out, word, field, b" never\n", b" always\n", b" open\n")
-        }
+        Row::Lamp => put_verdict(out, at, b"lamp ", i, field),
+        Row::Bad => put_verdict(out, at, b"bad ", i, field),
         Row::Latch => {
             let word = put_item(out, at, b"latch ", i);
             put_said(out, word, field, b" 0\n", b" 1\n", b" -\n")
@@ -76,14 +86,21 @@ pub fn put_row(out: &mut [u8], at: usize, row: Row, i: usize, field: u8) -> usiz
     }
 }
 
-// A line for each field of a record.
-pub fn put_rows(out: &mut [u8], start: usize, row: Row, fields: &[u8], count: usize) -> usize
-    requires { ⌜ (start + 34 * count ≤ length (now out)) × (count ≤ 4 * length (now fields)) ⌝ }
-    ensures { λ r. ⌜ Put (now (out .entry)) start (rows row 0 (unpack count (now (fields .entry)))) (now (out .exit)) r × (r ≤ start + 34 * count) ⌝ }
+// A line for each of so many fields of a record, from field number `first` on.
+pub fn put_rows(
+    out: &mut [u8],
+    start: usize,
+    row: Row,
+    fields: &[u8],
+    first: usize,
+    count: usize,
+) -> usize
+    requires { ⌜ (start + 34 * count ≤ length (now out)) × (first + count ≤ 4 * length (now fields)) × (first ≤ 512) ⌝ }
+    ensures { λ r. ⌜ Put (now (out .entry)) start (rows row 0 (drop first (unpack (first + count) (now (fields .entry))))) (now (out .exit)) r × (r ≤ start + 34 * count) ⌝ }
 {
     let mut end = start;
     for i in 0..count {
-        end = put_row(out, end, row, i, three::field(fields, i));
+        end = put_row(out, end, row, i, three::field(fields, first + i));
     }
     end
 }

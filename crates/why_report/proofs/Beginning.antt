@@ -1,81 +1,47 @@
 -- The first piece: a refusal, an open lamp, or a lamp that is known in every stored cube. Assumes nothing.
 use mathlib.Core.Path.{_≡_, refl, sym, ap, ap₂, _∙_}
-use mathlib.Core.Bool.{Bool, true, false, cond, false≢true}
 use mathlib.Core.List.{List, [], _++_}
 use Prim.Native.Nat.{ℕ, zero, suc, _+_, _-_, _≤_, _<_}
 use native.Mathlib.Omega.{arith}
 use borrow.Author.Tests.{le-ltb, lt-ltb}
 use lib.Dec.{ltb}
 use lib.ListN.{length, getD, replicate}
-use Rattle.three.specs.Value.{Three, unknown, low, high, code, decode}
-use Rattle.three.specs.Cube.{Cube, alike, allows, subsumes}
+use Rattle.three.specs.Value.{unknown, code, decode}
+use Rattle.three.specs.Cube.{Cube, alike}
 use Rattle.three.specs.Record.{pairAt, unpack}
-use Rattle.three.proofs.Lists.{getD-tabulate, every-at}
-use Rattle.three.proofs.Merge.{subsumes-every}
+use Rattle.three.proofs.Lists.{getD-tabulate}
 use Rattle.circuit.specs.declared.Counts.{Counts}
 use Rattle.circuit.specs.Circuit.{Circuit}
 use Rattle.circuit.specs.Refusal.{refusal}
-use Rattle.circuit.specs.Table.{circuitOf, circuitTests}
+use Rattle.circuit.specs.Table.{verdicts, circuitOf, circuitTests}
 use Rattle.circuit.specs.RulesInCode.{Bounded}
 use Rattle.circuit.proofs.Legality.{legal}
 use Rattle.putting.specs.PutInCode.{Put}
 use Rattle.cubes.specs.declared.ChainAnswer.{ChainAnswer}
 use Rattle.cubes.specs.declared.JudgeAnswer.{JudgeAnswer}
-use Rattle.cubes.specs.Run.{lampsIn, cubeAt, stops, verdict}
+use Rattle.cubes.specs.Run.{cubeAt, verdict}
 use Rattle.cubes.specs.Buffer.{cubeIn}
 use Rattle.cubes.specs.Chain.{ChainGiven, circuitIn, Chained}
 use Rattle.cubes.specs.Judge.{JudgeGiven, verdictFields, cubesIn, Judged, circuitIn as judgedIn}
-use Rattle.cubes.proofs.Wider.{mergeFrom-covers}
-use Rattle.cubes.proofs.Buffered.{verdict-same, literals-counted, lamps-counted, verdict-sized}
+use Rattle.cubes.proofs.Buffered.{verdict-same, literals-counted}
 use Rattle.cubes.proofs.Given.{cubes-stand}
 use Rattle.cubes.proofs.Chaining.{own-few, own-sound}
 use Rattle.cubes.proofs.Own.{relit-self, own-board, own-cube, own-accepted}
 use Rattle.cubes.proofs.Promising.{verdict-is}
-use Rattle.asked.specs.Call.{lampIn}
 use Rattle.rows.specs.declared.Row.{Row}
 use Rattle.rows.specs.Rows.{row}
 use Rattle.reasons.specs.Reasons.{isKnown, line, told, toldFrom}
 use Rattle.reporting.specs.Reporting.{refusing, ofRun}
-use Rattle.reporting.proofs.Running.{chain-closed}
-use Rattle.why_report.specs.WhyReport.{explanation, explained, ended}
+use Rattle.reporting.proofs.Running.{chain-stopped}
+use Rattle.why_report.specs.WhyReport.{explanation, explained, runExplained}
 use Rattle.why_report.specs.WhyReportInCode.{explanationIn, linesFrom, Judgeable, Ready, Begins}
-use Rattle.why_report.proofs.Pieces.{put-piece, put-whole}
-
--- ---- fields
-
-known-field : (field : ℕ) → (field ≡ 0 → ⊥) → isKnown (decode field) ≡ true
-unfolding isKnown alike code decode
-known-field zero h = absurd (h refl)
-known-field (suc zero) h = refl
-known-field (suc (suc n)) h = refl
-
-not-unknown : (v : Three) → isKnown v ≡ true → v ≡ unknown → ⊥
-unfolding isKnown alike code
-not-unknown v t e = false≢true (rw e at t)
-
-allows-unknown : (v : Three) → allows v unknown ≡ true → v ≡ unknown
-unfolding allows alike code
-allows-unknown unknown t = refl
-allows-unknown low t = absurd (false≢true t)
-allows-unknown high t = absurd (false≢true t)
+use Rattle.why_report.proofs.Pieces.{put-piece}
+use Rattle.why_report.proofs.Known.{known-field, known-in}
 
 -- ---- the lamp's verdict in given cubes
 
-module _ (counts : Counts) (table : List ℕ) (cubes : ℕ → Cube) (n lamp : ℕ) (is-lamp : lamp < counts .lamps) where
-  abbrev c : Circuit
-  c = circuitOf counts table
-
-  -- a lamp that is judged never or always is known in every cube
-  known-in : isKnown (getD (verdict c cubes n) lamp unknown) ≡ true → (k : ℕ) → k < n → lampIn c (cubes k) lamp ≡ unknown → ⊥
-  unfolding verdict lampIn
-  known-in t k h e =
-      let sized : length (verdict c cubes n) ≡ counts .lamps = verdict-sized counts table cubes n in
-      let covers : subsumes (verdict c cubes n) (lampsIn c (cubes k)) ≡ true = mergeFrom-covers _ (λ i. lampsIn c (cubes i)) _ (λ i. lamps-counted counts table (cubes i)) 0 n k (omega arith) (omega arith) in
-      let each = sym (subsumes-every (verdict c cubes n) (lampsIn c (cubes k)) (sized ∙ sym (lamps-counted counts table (cubes k)))) ∙ covers in
-      not-unknown _ t (allows-unknown _ (rw e at (every-at _ _ each lamp (omega (arith, sized)))))
-
 module _ (counts : Counts) (table cubes : List ℕ) (n j : ℕ) (judgeable : Judgeable counts table cubes n j) (lamp : ℕ) (is-lamp : lamp < counts .lamps)
-    (verdict₀ settled₀ : List ℕ) (v : length verdict₀ ≡ 16) (s : length settled₀ ≡ 128) where
+    (verdict₀ settled₀ : List ℕ) (v : length verdict₀ ≡ 32) (s : length settled₀ ≡ 128) where
   abbrev own : JudgeGiven
   own = record { counts = counts; table = table; cubes = cubes; n = n; j = j; verdict = verdict₀; settled = settled₀ }
 
@@ -87,7 +53,7 @@ module _ (counts : Counts) (table cubes : List ℕ) (n j : ℕ) (judgeable : Jud
     unfolding unpack verdictFields judgedIn cubesIn
     verdict-as =
         ap decode f
-        ∙ sym (getD-tabulate (counts .lamps) (λ i. decode (pairAt verdict′ i)) lamp unknown is-lamp)
+        ∙ sym (getD-tabulate (verdicts counts) (λ i. decode (pairAt verdict′ i)) lamp unknown (omega (arith, is-lamp)))
         ∙ ap (λ (fields : Cube). getD fields lamp unknown) (verdict-is own q verdict′ settled′ judged (judged .answers ∙ sym (judgeable .judged verdict₀ settled₀ v s)))
 
     module _ {out out′ : List ℕ} {r : ℕ} (put : Put out 0 (row Row.Lamp lamp (decode field)) out′ r × (r ≤ length out)) where
@@ -131,24 +97,24 @@ module _ (counts : Counts) (table : List ℕ) (accepts : 0 ≡ refusal (circuitT
   abbrev given : ChainGiven
   given = record { counts = counts; table = table; w = 16; cubes = cubes }
 
-  module _ {r : ChainAnswer} {cubes′ : List ℕ} (chained : Chained given r cubes′) (closed : r .number ≡ 0) where
+  module _ {r : ChainAnswer} {cubes′ : List ℕ} (chained : Chained given r cubes′) (stopped : r .number ≡ 0) where
     pub judgeable : Judgeable counts table cubes′ (r .cubes) (r .back)
     unfolding circuitIn
     judgeable = record {
-      are = record { accepts = accepts; stand = cubes-stand counts cubes′ (r .cubes) (own-few given r cubes′ chained closed) (own-sound given r cubes′ chained closed) };
+      are = record { accepts = accepts; stand = cubes-stand counts cubes′ (r .cubes) (own-few given r cubes′ chained stopped) (own-sound given r cubes′ chained stopped) };
       judged = λ verdict settled v s.
-          own-accepted given r cubes′ chained closed counts table (own-board given r cubes′ chained closed) (relit-self (circuitIn given)) verdict settled
+          own-accepted given r cubes′ chained stopped counts table (own-board given r cubes′ chained stopped) (relit-self (circuitIn given)) verdict settled
           (omega (arith, legal counts table accepts .bounded, v)) (omega (arith, legal counts table accepts .bounded, s));
     }
 
     module _ (lamp : ℕ) where
-      pub no-such-lamp : counts .lamps ≤ lamp → refusing 23 ≡ ofRun (ended lamp) (record { counts = counts; words = table })
-      unfolding ended circuitIn
-      no-such-lamp h = sym (chain-closed counts table accepts cubes sized chained (ended lamp) closed ∙ rw (literals-counted counts table, le-ltb lamp (counts .lamps) h))
+      pub no-such-lamp : counts .lamps ≤ lamp → refusing 23 ≡ ofRun (runExplained lamp) (record { counts = counts; words = table })
+      unfolding runExplained circuitIn
+      no-such-lamp h = sym (chain-stopped counts table accepts cubes sized chained (runExplained lamp) stopped ∙ rw (literals-counted counts table, le-ltb lamp (counts .lamps) h))
 
-      pub lamp-explained : lamp < counts .lamps → explained lamp (circuitOf counts table) (cubeIn (counts .latches) cubes′) (r .cubes) ≡ ofRun (ended lamp) (record { counts = counts; words = table })
-      unfolding ended circuitIn
+      pub lamp-explained : lamp < counts .lamps → explained lamp (circuitOf counts table) (cubeIn (counts .latches) cubes′) (r .cubes) ≡ ofRun (runExplained lamp) (record { counts = counts; words = table })
+      unfolding runExplained circuitIn
       lamp-explained h =
           explained-same lamp (circuitOf counts table) _ (cubeAt (circuitOf counts table) 16) (r .cubes)
-          (λ k l. sym (own-cube given r cubes′ chained closed counts table (own-board given r cubes′ chained closed) (relit-self (circuitIn given)) k l))
-          ∙ sym (chain-closed counts table accepts cubes sized chained (ended lamp) closed ∙ rw (literals-counted counts table, lt-ltb lamp (counts .lamps) h))
+          (λ k l. sym (own-cube given r cubes′ chained stopped counts table (own-board given r cubes′ chained stopped) (relit-self (circuitIn given)) k l))
+          ∙ sym (chain-stopped counts table accepts cubes sized chained (runExplained lamp) stopped ∙ rw (literals-counted counts table, lt-ltb lamp (counts .lamps) h))

@@ -12,7 +12,7 @@ use Rattle.reporting.specs.Reporting.{Piece}
 use Rattle.why_report.specs.WhyReportInCode.{linesFrom, Begins}
 
 pub put-piece : {before after out out′ piece : List ℕ} {r : ℕ} → before ≡ piece ++ after → Put out 0 piece out′ r × (r ≤ length out) → Piece before after out r out′
-put-piece {piece = piece} e p = let is = put-front (refl {x = piece}) p in record { piece = piece; returns = is .0; fills = is .1; fits = is .2; left = e }
+put-piece {piece = piece} e p = let is = put-front {whole = piece} refl p in record { piece = piece; returns = is .0; fills = is .1; fits = is .2; left = e }
 
 -- one that is the whole
 pub put-whole : {whole out out′ : List ℕ} {r : ℕ} → Put out 0 whole out′ r × (r ≤ length out) → Piece whole [] out r out′

@@ -27,11 +27,11 @@ module _ (lamp : ℕ) where
       row Row.Lamp lamp v ++ cond (isKnown v) (toldFrom (λ k. explanation c (cubes k)) n 0) []
 
   -- a circuit's run with w = 16; 23 where it has no such lamp, after the refusals of the run
-  unfoldable pub ended : Circuit → Ending → List ℕ
-  ended c e = elim e [ stops n j ↦ cond (ltb lamp (length (c .lamps))) (explained c (cubeAt c 16) n) (refusing 23) | full ↦ refusing 15 ]
+  unfoldable pub runExplained : Circuit → Ending → List ℕ
+  runExplained c e = elim e [ stops n j ↦ cond (ltb lamp (length (c .lamps))) (explained c (cubeAt c 16) n) (refusing 23) | full ↦ refusing 15 ]
 
   -- what is printed
   unfoldable pub whyReportOf : List ℕ → List ℕ
-  whyReportOf text = ofText ended text
+  whyReportOf text = ofText runExplained text
 
 -- It is printed piece by piece (`Piece`, reporting).

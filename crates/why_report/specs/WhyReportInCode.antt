@@ -40,7 +40,7 @@ module _ (counts : Counts) (table cubes : List ℕ) where
   -- the judge does not refuse them
   pub record Judgeable (n j : ℕ) : Type 0 where
     pub are : Stored n
-    pub judged : (verdict settled : List ℕ) → length verdict ≡ 16 → length settled ≡ 128
+    pub judged : (verdict settled : List ℕ) → length verdict ≡ 32 → length settled ≡ 128
         → 0 ≡ refusal (judgeTests (record { counts = counts; table = table; cubes = cubes; n = n; j = j; verdict = verdict; settled = settled }))
 
   -- and the lamp is known in each

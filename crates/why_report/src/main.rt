@@ -16,7 +16,7 @@ ghost use Rattle.circuit.specs.Refusal.{refusal};
 ghost use Rattle.circuit.specs.Table.{circuitOf, circuitTests};
 ghost use Rattle.cubes.specs.Buffer.{cubeIn};
 ghost use Rattle.reporting.specs.Reporting.{refusing, ofRun, Piece};
-ghost use Rattle.why_report.specs.WhyReport.{explained, ended, whyReportOf};
+ghost use Rattle.why_report.specs.WhyReport.{explained, runExplained, whyReportOf};
 ghost use Rattle.why_report.specs.WhyReportInCode.{explanationIn, linesFrom, Judgeable, Explains, Ready, GroupEnds, Begins};
 
 // Takes w = 16 and a cube buffer of 65,536 bytes, as the report does.
@@ -29,6 +29,9 @@ const LINE_BYTES: usize = 20000;
 
 // The record of the most latches.
 const LONGEST_RECORD: usize = 128;
+
+// The record of the most verdicts: 64 lamps and 64 bad states.
+const LONGEST_VERDICT: usize = 32;
 
 // The explanation in the cube of this number: the one place that takes a stored cube for a state, its mark left off.
 fn explain_cube(
@@ -122,7 +125,7 @@ fn put_verdict(
     requires { ⌜ Judgeable counts (now table) (now cubes) n j × (lamp < counts .lamps) ⌝ }
     ensures { λ r. ⌜ Begins counts (now (table .entry)) (now (cubes .entry)) (explained lamp (circuitOf counts (now (table .entry))) (cubeIn (counts .latches) (now (cubes .entry))) n) lamp (now (out .entry)) (r .bytes) (r .cubes) (now (out .exit)) × (r .counts ≡ counts) ⌝ }
 {
-    let mut verdict = [0u8; 16];
+    let mut verdict = [0u8; LONGEST_VERDICT];
     let mut settled = [0u8; LONGEST_RECORD];
     judged::judge(counts, table, cubes, n, j, &mut verdict, &mut settled);
     let field = three::field(&verdict, lamp);
@@ -161,7 +164,7 @@ fn begin_run(
     out: &mut [u8; LINE_BYTES],
 ) -> Begun
     requires { ⌜ (0 ≡ refusal (circuitTests counts (now table))) × (length (now cubes) ≡ 65536) ⌝ }
-    ensures { λ r. ⌜ Begins counts (now (table .entry)) (now (cubes .exit)) (ofRun (ended lamp) (record { counts = counts; words = now (table .entry) })) lamp (now (out .entry)) (r .bytes) (r .cubes) (now (out .exit)) × (r .counts ≡ counts) ⌝ }
+    ensures { λ r. ⌜ Begins counts (now (table .entry)) (now (cubes .exit)) (ofRun (runExplained lamp) (record { counts = counts; words = now (table .entry) })) lamp (now (out .entry)) (r .bytes) (r .cubes) (now (out .exit)) × (r .counts ≡ counts) ⌝ }
 {
     let chain = chained::chain(counts, table, INTERVAL, cubes);
     if chain.number != 0 {
@@ -183,7 +186,7 @@ fn begin(
     cubes: &mut [u8; CUBE_BYTES],
     out: &mut [u8; LINE_BYTES],
 ) -> Begun
-    requires { ⌜ (length (now table) ≡ 7742) × (length (now cubes) ≡ 65536) ⌝ }
+    requires { ⌜ (length (now table) ≡ 7870) × (length (now cubes) ≡ 65536) ⌝ }
     ensures { λ r. ⌜ Begins (r .counts) (now (table .exit)) (now (cubes .exit)) (whyReportOf lamp (now (text .entry))) lamp (now (out .entry)) (r .bytes) (r .cubes) (now (out .exit)) ⌝ }
 {
     let read = reader::read(text, table);

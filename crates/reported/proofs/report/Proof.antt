@@ -2,7 +2,7 @@
 use native.Mathlib.Omega.{arith}
 use Rattle.reporting.specs.Reporting.{ofText}
 use Rattle.reporting.proofs.Reading.{read-refused, read-accepted, accepted-table, run-read}
-use Rattle.reported.specs.Report.{ended, reportOf}
+use Rattle.reported.specs.Report.{runReport, reportOf}
 use Rattle.reported.proofs.Reporting.{put-report}
 use borrow.Author.Needs.{needs}
 use Rattle.reported.proofs.report.Statement.{statement}
@@ -15,7 +15,7 @@ unfolding reportOf
 returns c =
     let asked = c .before .before in
     let read = asked .before .before .before in
-    put-report _ (read-refused _ _ (omega arith) (read .read .ensures) ended (asked .if1 .taken)) (c .put-refusal .ensures)
+    put-report _ (read-refused _ _ (omega arith) (read .read .ensures) runReport (asked .if1 .taken)) (c .put-refusal .ensures)
 
 report-run-requires : tie.Need-report-run-requires
 report-run-requires c κs = accepted-table (read-accepted _ _ (omega arith) (c .before .before .before .before .before .before .read .ensures) (c .before .before .before .if1 .left))
@@ -24,7 +24,7 @@ returns-2 : tie.Need-returns-2
 unfolding reportOf ofText
 returns-2 c =
     let put = c .report-run .ensures in
-    put-report _ (run-read (read-accepted _ _ (omega arith) (c .before .before .before .before .before .before .before .read .ensures) (c .before .before .before .before .if1 .left)) ended) put
+    put-report _ (run-read (read-accepted _ _ (omega arith) (c .before .before .before .before .before .before .before .read .ensures) (c .before .before .before .before .if1 .left)) runReport) put
 
 pub report-spec : {M : Type 1} → statement M
 report-spec =

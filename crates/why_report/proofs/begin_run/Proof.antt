@@ -2,7 +2,7 @@
 use mathlib.Core.Path.{refl}
 use native.Mathlib.Omega.{arith}
 use Rattle.reporting.proofs.Running.{chain-refused}
-use Rattle.why_report.specs.WhyReport.{ended}
+use Rattle.why_report.specs.WhyReport.{runExplained}
 use Rattle.why_report.proofs.Pieces.{only-piece, begins-as}
 use Rattle.why_report.proofs.Beginning.{judgeable, no-such-lamp, lamp-explained}
 use borrow.Author.Needs.{needs}
@@ -13,11 +13,11 @@ use Rattle.why_report.proofs.begin_refused.Reads as begin-refused-reads
 use Rattle.why_report.proofs.put_verdict.Reads as put-verdict-reads
 
 returns : tie.Need-returns
-unfolding ended
+unfolding runExplained
 returns c =
     let start = c .before .before .before .before .before .before .before in
     let said = c .begin-refused .ensures in
-    (only-piece _ _ _ _ (chain-refused _ _ (start .pre .0) _ (start .pre .1) (c .before .before .before .before .chain .ensures .0) (ended (start .args .lamp)) refl (c .before .before .if1 .taken)) (said .0) (said .1), said .2)
+    (only-piece _ _ _ _ (chain-refused _ _ (start .pre .0) _ (start .pre .1) (c .before .before .before .before .chain .ensures .0) (runExplained (start .args .lamp)) refl (c .before .before .if1 .taken)) (said .0) (said .1), said .2)
 
 returns-2 : tie.Need-returns-2
 returns-2 c =
