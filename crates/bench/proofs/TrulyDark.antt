@@ -10,7 +10,7 @@ use Rattle.three.specs.Lists.{tabulate, Each, empty}
 use Rattle.three.specs.Value.{boolean}
 use Rattle.circuit.specs.declared.Counts.{Counts}
 use Rattle.circuit.specs.Circuit.{Circuit, signed, value, pass, settle, lamps, readings}
-use Rattle.circuit.specs.Table.{circuitOf}
+use Rattle.circuit.specs.Table.{plainCounts, circuitOf}
 use Rattle.text.specs.Outcome.{accepted}
 use Rattle.text.specs.Text.{Content, readText}
 use Rattle.text.specs.Calls.{Reading}
@@ -18,14 +18,14 @@ use Rattle.text.specs.Bench.{bytes, outcomeOf}
 use Rattle.text.proofs.Answers.{read-fits, reading-accepted}
 use Rattle.text.proofs.Determined.{reading-determined}
 use Rattle.cubes.specs.Run.{resets}
-use Rattle.cubes.specs.Execution.{Allows, Execution, settings, stateAfter, lampsAfter}
+use Rattle.cubes.specs.Execution.{Allows, Execution, settings, stateAfter, readAfter, lampsAfter}
 use Rattle.witness.proofs.Cases.{circuit-read}
 use Rattle.witness.proofs.Switching.{off-with-inverse}
 use Rattle.bench.specs.Bench.{K·}
 
 -- one switch, one gate of the switch and its inverse, and the gate as lamp
 abbrev K-content : Content
-K-content = record { counts = record { inputs = 1; latches = 0; lamps = 1; gates = 1 }; words = 4 ∷ 2 ∷ 3 ∷ [] }
+K-content = record { counts = plainCounts 1 0 1 1; words = 4 ∷ 2 ∷ 3 ∷ [] }
 
 K-read : readText (bytes K·) ≡ accepted K-content
 unfolding outcomeOf bytes
@@ -35,7 +35,7 @@ abbrev K-circuit : Circuit
 K-circuit = circuitOf (K-content .counts) (K-content .words)
 
 K-dark : (e : Execution K-circuit) (t : ℕ) → lampsAfter e t ≡ false ∷ []
-unfolding lampsAfter stateAfter settings resets readings settle pass value signed boolean circuitOf tabulate
+unfolding readAfter stateAfter settings resets readings settle pass value signed boolean circuitOf tabulate
 K-dark e zero = dark (e .first) (e .allowed)
   where
     dark : (first : List Bool) → Each Allows [] first → lamps boolean K-circuit (settings e 0) first ≡ false ∷ []

@@ -4,9 +4,9 @@ use Prim.Native.Nat.{ℕ}
 use Prim.Native.String.{String}
 use Rattle.witness.specs.Case.{Claim, number, n, j, s, cubes, verdict, settled, Case, refuses, runs}
 
--- a run at w that is closed; the document names no cube buffer, and 100 bytes are ample
-abbrev closes : String → ℕ → List Claim → Case
-closes text w says = runs text w 100 (number 0 ∷ says)
+-- a run at w that closes or ends; the document names no cube buffer, and 100 bytes are ample
+abbrev stops : String → ℕ → List Claim → Case
+stops text w says = runs text w 100 (number 0 ∷ says)
 
 abbrev T· : String
 T· = "aag 1 0 1 1 0/2 3/2/"
@@ -31,23 +31,27 @@ abbrev U· : String
 U· = "aag 2 0 2 1 0/2 0 2/4 2/4/"
 
 -- in the document's order; all but the case of no counts, U and the refusal 6 are starred. Of a text without lamps the reading is said, and its run is refused (request 2).
--- Cubes stand with their marks in front (request 8)
+-- Cubes stand with their marks in front (request 8). The four behind U have a constraint (request 9), and the first three of them end.
 unfoldable pub cases : List Case
 cases =
-    closes T· 0 (cubes (0x50 ∷ 0x60 ∷ []) ∷ n 2 ∷ j 0 ∷ s 0 ∷ verdict (0x00 ∷ []) ∷ [])
-    ∷ closes T· 1 (cubes (0x50 ∷ 0x80 ∷ []) ∷ n 2 ∷ j 1 ∷ [])
-    ∷ closes H· 0 (cubes (0x50 ∷ 0x40 ∷ []) ∷ n 2 ∷ j 1 ∷ verdict (0x00 ∷ []) ∷ [])
-    ∷ closes K· 0 (cubes (0x40 ∷ []) ∷ n 1 ∷ j 0 ∷ verdict (0x00 ∷ []) ∷ [])
-    ∷ closes S· 0 (cubes (0x58 ∷ 0x64 ∷ []) ∷ n 2 ∷ j 0 ∷ verdict (0x40 ∷ []) ∷ [])
-    ∷ closes S· 1 (cubes (0x58 ∷ 0x80 ∷ []) ∷ n 2 ∷ j 1 ∷ verdict (0x00 ∷ []) ∷ [])
-    ∷ closes E· 0 (cubes (0x50 ∷ 0x60 ∷ []) ∷ n 2 ∷ j 1 ∷ s 1 ∷ settled (0x80 ∷ []) ∷ verdict (0x00 ∷ []) ∷ [])
+    stops T· 0 (cubes (0x50 ∷ 0x60 ∷ []) ∷ n 2 ∷ j 0 ∷ s 0 ∷ verdict (0x00 ∷ []) ∷ [])
+    ∷ stops T· 1 (cubes (0x50 ∷ 0x80 ∷ []) ∷ n 2 ∷ j 1 ∷ [])
+    ∷ stops H· 0 (cubes (0x50 ∷ 0x40 ∷ []) ∷ n 2 ∷ j 1 ∷ verdict (0x00 ∷ []) ∷ [])
+    ∷ stops K· 0 (cubes (0x40 ∷ []) ∷ n 1 ∷ j 0 ∷ verdict (0x00 ∷ []) ∷ [])
+    ∷ stops S· 0 (cubes (0x58 ∷ 0x64 ∷ []) ∷ n 2 ∷ j 0 ∷ verdict (0x40 ∷ []) ∷ [])
+    ∷ stops S· 1 (cubes (0x58 ∷ 0x80 ∷ []) ∷ n 2 ∷ j 1 ∷ verdict (0x00 ∷ []) ∷ [])
+    ∷ stops E· 0 (cubes (0x50 ∷ 0x60 ∷ []) ∷ n 2 ∷ j 1 ∷ s 1 ∷ settled (0x80 ∷ []) ∷ verdict (0x00 ∷ []) ∷ [])
     ∷ runs E· 0 1 (number 15 ∷ n 1 ∷ j 0 ∷ s 0 ∷ cubes (0x50 ∷ []) ∷ verdict [] ∷ settled [] ∷ [])
-    ∷ closes C· 0 (cubes (0x54 ∷ 0x64 ∷ 0x58 ∷ 0x68 ∷ []) ∷ n 4 ∷ j 0 ∷ [])
-    ∷ closes C· 2 (cubes (0x54 ∷ 0x64 ∷ 0x80 ∷ []) ∷ n 3 ∷ j 2 ∷ [])
-    ∷ closes C· 3 (cubes (0x54 ∷ 0x64 ∷ 0x58 ∷ 0x88 ∷ 0x40 ∷ []) ∷ n 5 ∷ j 4 ∷ [])
+    ∷ stops C· 0 (cubes (0x54 ∷ 0x64 ∷ 0x58 ∷ 0x68 ∷ []) ∷ n 4 ∷ j 0 ∷ [])
+    ∷ stops C· 2 (cubes (0x54 ∷ 0x64 ∷ 0x80 ∷ []) ∷ n 3 ∷ j 2 ∷ [])
+    ∷ stops C· 3 (cubes (0x54 ∷ 0x64 ∷ 0x58 ∷ 0x88 ∷ 0x40 ∷ []) ∷ n 5 ∷ j 4 ∷ [])
     ∷ runs "aag 0 0 0 0 0/" 0 100 (number 16 ∷ n 0 ∷ j 0 ∷ s 0 ∷ cubes [] ∷ verdict [] ∷ settled [] ∷ [])
     ∷ runs "aag 1 0 1 0 0/2 2 2/" 0 100 (number 16 ∷ n 0 ∷ j 0 ∷ s 0 ∷ cubes [] ∷ verdict [] ∷ settled [] ∷ [])
-    ∷ closes U· 0 (cubes (0x44 ∷ 0x50 ∷ []) ∷ n 2 ∷ j 0 ∷ s 0 ∷ verdict (0x00 ∷ []) ∷ [])
+    ∷ stops U· 0 (cubes (0x44 ∷ 0x50 ∷ []) ∷ n 2 ∷ j 0 ∷ s 0 ∷ verdict (0x00 ∷ []) ∷ [])
+    ∷ stops "aag 1 0 1 1 0 1 1/2 1/2/3/3/" 0 (cubes (0x50 ∷ []) ∷ n 1 ∷ j 1 ∷ s 0 ∷ verdict (0x60 ∷ []) ∷ settled (0x00 ∷ []) ∷ [])
+    ∷ stops "aag 1 0 1 1 0 1 1/2 1 1/2/3/3/" 0 (cubes [] ∷ n 0 ∷ j 0 ∷ verdict (0x50 ∷ []) ∷ [])
+    ∷ stops "aag 1 0 1 1 0 1 1/2 1 2/2/3/3/" 0 (cubes (0x40 ∷ []) ∷ n 1 ∷ j 1 ∷ verdict (0x00 ∷ []) ∷ [])
+    ∷ stops "aag 1 0 1 1 0 0 1/2 2 2/2/3/" 0 (cubes (0x40 ∷ []) ∷ n 1 ∷ j 0 ∷ verdict (0x00 ∷ []) ∷ [])
     ∷ refuses "aag 2 1 0 0 1/2/4 4 2/" 7
     ∷ refuses "aag 2 1 0 0 1/2/4 6 2/" 6
     ∷ []

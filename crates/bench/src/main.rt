@@ -172,6 +172,18 @@ fn main() {
     ample(b"no counts", b"aag 0 0 0 0 0\n", 0);
     ample(b"no start value", b"aag 1 0 1 0 0\n2 2 2\n", 0);
     ample(b"U", &U, 0);
+    ample(b"ends", b"aag 1 0 1 1 0 1 1\n2 1\n2\n3\n3\n", 0);
+    ample(b"ends at once", b"aag 1 0 1 1 0 1 1\n2 1 1\n2\n3\n3\n", 0);
+    ample(
+        b"ends from any start",
+        b"aag 1 0 1 1 0 1 1\n2 1 2\n2\n3\n3\n",
+        0,
+    );
+    ample(
+        b"unknown constraint",
+        b"aag 1 0 1 1 0 0 1\n2 2 2\n2\n3\n",
+        0,
+    );
     ample(b"operand 4", b"aag 2 1 0 0 1\n2\n4 4 2\n", 0);
     ample(b"operand 6", b"aag 2 1 0 0 1\n2\n4 6 2\n", 0);
 }

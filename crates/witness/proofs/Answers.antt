@@ -10,7 +10,7 @@ use Rattle.three.specs.Cube.{Cube, knownFields}
 use Rattle.three.specs.Record.{bytesFor, pack}
 use Rattle.circuit.specs.declared.Counts.{Counts}
 use Rattle.circuit.specs.Refusal.{Test, _or_, refusal, leftBy}
-use Rattle.circuit.specs.Table.{circuitOf, boardTests}
+use Rattle.circuit.specs.Table.{verdicts, circuitOf, boardTests}
 use Rattle.circuit.proofs.Refusals.{refusal-alike, refused-old, accepted-new}
 use Rattle.circuit.proofs.Legality.{board-numbered}
 use Rattle.cubes.specs.declared.ChainAnswer.{ChainAnswer}
@@ -43,6 +43,14 @@ written (suc k) xs buffer = refl
 
 written-after : {k number : ℕ} (xs buffer : List ℕ) {buffer′ : List ℕ} → k ≡ number → buffer′ ≡ leftBy k (over xs buffer) buffer → buffer′ ≡ over (leftBy number xs []) buffer
 written-after {k} xs buffer e f = f ∙ written k xs buffer ∙ ap (λ (m : ℕ). over (leftBy m xs []) buffer) e
+
+-- a run that is not refused has a chain that was not
+pub run-chained : {g : RunGiven} {r : RunAnswer} {cubes verdict settled : List ℕ} (runs : Runs g r cubes verdict settled) → r .number ≡ 0 → runs .number ≡ 0
+run-chained runs done = go (runs .number) refl
+  where
+    go : (k : ℕ) → runs .number ≡ k → runs .number ≡ 0
+    go zero e = e
+    go (suc m) e = sym (runs .stays (λ z. absurd (omega (arith, e, z))) .0) ∙ done
 
 -- on the chain's own cubes the judge refuses for its results alone
 module _ {g : RunGiven} {r : RunAnswer} {cubes verdict settled : List ℕ} (runs : Runs g r cubes verdict settled) (closed : runs .number ≡ 0) where
@@ -126,7 +134,7 @@ answer-zeroed size g sized =
     let long : length (g .cubes) ≡ length {A = ℕ} (replicate size 0) = sized .cubes ∙ sym (length-replicate size 0) in
     answer-alike g (zeroed (g .counts) (g .table) (g .w) size)
     (λ i. refusal (chainTests (g .counts) (g .table) (g .w) (long i)))
-    (λ i. refusal (leb (bytesFor (g .counts .lamps)) (sized .verdict i) or 10 ∷ leb (bytesFor (g .counts .latches)) (sized .settled i) or 10 ∷ []))
+    (λ i. refusal (leb (bytesFor (verdicts (g .counts))) (sized .verdict i) or 10 ∷ leb (bytesFor (g .counts .latches)) (sized .settled i) or 10 ∷ []))
     refl
     refl
     (λ i. long i / cubeBytes (g .counts .latches))

@@ -6,13 +6,14 @@ use Rattle.three.specs.Lists.{every}
 use Rattle.three.specs.Record.{bad, leftover, pairs, sound, unpack, pairAt}
 use Rattle.three.specs.Value.{decode}
 use Rattle.circuit.proofs.Refusals.{accepted-new}
+use Rattle.circuit.specs.Table.{plainCounts}
 use Rattle.tick.specs.Tick.{recordTests, tickResultTests, tickTests, nextFields, lampFields, TickGiven, Ticked}
 use Rattle.witness.specs.Computed.{computed}
 
 -- T with its latch at 0, over result buffers of one byte each
 abbrev given : ℕ → ℕ → TickGiven
 given a b = record {
-  counts = record { inputs = 0; latches = 1; lamps = 1; gates = 0 };
+  counts = plainCounts 0 1 1 0;
   table = 3 ∷ 0 ∷ 2 ∷ [];
   state = 0x40 ∷ [];
   switches = 0x00 ∷ [];

@@ -5,6 +5,11 @@ pub mod Order
 pub mod TickBoolean
 pub mod Switching
 pub mod Starting
+pub mod Assuming
 pub mod Refused
 pub mod LampsBefore
 pub mod Reached
+pub mod Accepted
+pub mod Read
+pub mod Written
+pub mod Gates

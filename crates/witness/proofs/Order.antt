@@ -12,7 +12,7 @@ use Rattle.circuit.specs.Refusal.{leftBy}
 use Rattle.tick.specs.Tick.{recordTests, tickResultTests, TickGiven, tickTests}
 use Rattle.text.specs.Decimal.{digits, decimal}
 use Rattle.text.specs.Line.{endedLine}
-use Rattle.text.specs.Text.{headNumbers, shown, numbers, writeRows, lineOf, writeOpened}
+use Rattle.text.specs.Text.{headNumbers, furtherNumbers, shown, numbers, writeRows, lineOf, writeOpened}
 use Rattle.text.specs.Calls.{puttingTests}
 use Rattle.cubes.specs.Chain.{outcomeNumber, ChainGiven, refusedBy, outcomeIn}
 use Rattle.cubes.specs.Judge.{JudgeGiven}
@@ -79,7 +79,7 @@ unfolding writeNumber
 writes-number g number allows = allows .writing .answers
 
 writes-computed : numbered writeNumber writes ≡ true
-unfolding computed numbered writeNumber writes puttingTests writeOpened headNumbers endedLine decimal digits writeRows lineOf numbers shown
+unfolding computed numbered writeNumber writes puttingTests writeOpened headNumbers endedLine decimal digits writeRows lineOf numbers shown furtherNumbers
 writes-computed = refl
 
 pub write-order : AsNumbered WriteAllows writes

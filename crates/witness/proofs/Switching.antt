@@ -12,7 +12,7 @@ use Rattle.three.specs.Value.{boolean, unknown, known}
 use Rattle.three.specs.Record.{unpack}
 use Rattle.circuit.specs.Circuit.{signed, value, pass, settle, readings}
 use Rattle.circuit.specs.Table.{circuitOf}
-use Rattle.cubes.specs.Execution.{Execution, settings, stateAfter, lampsAfter}
+use Rattle.cubes.specs.Execution.{Execution, settings, stateAfter, readAfter, lampsAfter}
 use Rattle.cubes.specs.declared.JudgeAnswer.{JudgeAnswer}
 use Rattle.cubes.specs.Judge.{circuitIn}
 use Rattle.cubes.specs.Promise.{Covered, Promises}
@@ -37,7 +37,7 @@ module _ (e : Execution circuit) (t : ℕ) where
 
   -- the lamp is on where the switch was on and is off
   lamp-follows : lampsAfter e (suc t) ≡ (e .switches t 0 && not (e .switches (suc t) 0)) ∷ []
-  unfolding lampsAfter stateAfter settings readings settle pass value signed boolean circuitOf tabulate
+  unfolding readAfter stateAfter settings readings settle pass value signed boolean circuitOf tabulate
   lamp-follows = refl
 
 -- after tick t their states differ
@@ -54,7 +54,7 @@ off-with-inverse true = refl
 off-with-inverse false = refl
 
 pub dark-when-constant : (v : Bool) (t : ℕ) → lampsAfter (always v) t ≡ false ∷ []
-unfolding lampsAfter stateAfter settings readings settle pass value signed boolean circuitOf tabulate under
+unfolding readAfter stateAfter settings readings settle pass value signed boolean circuitOf tabulate under
 dark-when-constant v zero = refl
 dark-when-constant v (suc t) = lamp-follows (always v) t ∙ ap (λ (b : Bool). b ∷ []) (off-with-inverse v)
 
@@ -84,15 +84,15 @@ module _ {cubes : List ℕ} {n j : ℕ} {verdict₀ settled₀ : List ℕ} {r : 
   both-covered t = record {
     alike = alike-elsewhere t;
     differ = states-differ t;
-    never-on = promises .covers done (always false);
-    on-once = promises .covers done (once t);
+    never-on = promises .covers done refl (always false);
+    on-once = promises .covers done refl (once t);
   }
 
   -- the lamp that is dark under all constant settings is not judged never
   pub not-never : getD (unpack 1 verdict) 0 unknown ≡ known false → ⊥
   unfolding circuitIn
   not-never e =
-      true≢false (ap (λ (l : List Bool). getD l 0 false) (sym (lit-after-once 0)) ∙ promises .covers done (once 0) .judged 0 false e 1)
+      true≢false (ap (λ (l : List Bool). getD l 0 false) (sym (lit-after-once 0)) ∙ promises .covers done refl (once 0) .judged 0 false e 1)
 
 -- ---- and a run of the circuit is closed and accepted, so that the above speaks of something
 

@@ -6,3 +6,4 @@ pub mod Ring
 pub mod Order
 pub mod Switched
 pub mod Unstarted
+pub mod Assumed

@@ -8,6 +8,7 @@ use Prim.Native.Nat.{ℕ, zero, suc}
 use lib.Dec.{eqb}
 use lib.ListN.{length, replicate}
 use Rattle.circuit.specs.declared.Counts.{Counts}
+use Rattle.circuit.specs.Table.{plainCounts}
 use Rattle.circuit.specs.Refusal.{refusal}
 use Rattle.tick.specs.Tick.{tickTests, TickGiven, Ticked}
 use Rattle.text.specs.Calls.{writeTests, Writing}
@@ -95,23 +96,35 @@ writeNumber g = refusal (writeTests (g .counts) (g .table) (g .buffer))
 -- ---- the calls: E of the bench circuits, with one switch more
 
 abbrev fair : Counts
-fair = record { inputs = 1; latches = 1; lamps = 1; gates = 0 }
+fair = plainCounts 1 1 1 0
 
 -- 257 inputs
 abbrev many : Counts
-many = record { inputs = 257; latches = 1; lamps = 1; gates = 0 }
+many = plainCounts 257 1 1 0
 
 -- no lamp
 abbrev dark : Counts
-dark = record { inputs = 1; latches = 1; lamps = 0; gates = 0 }
+dark = plainCounts 1 1 0 0
 
 -- 257 inputs, and no lamp
 abbrev manyDark : Counts
-manyDark = record { inputs = 257; latches = 1; lamps = 0; gates = 0 }
+manyDark = plainCounts 257 1 0 0
+
+-- so many lamps, bad states and constraints
+abbrev further : ℕ → ℕ → ℕ → Counts
+further o b c = record { inputs = 1; latches = 1; lamps = o; gates = 0; bads = b; constraints = c }
 
 -- next literal 1 and reset 0, lamp literal 4
 abbrev good : List ℕ
 good = 1 ∷ 0 ∷ 4 ∷ []
+
+-- the same for a lamp and four bad states: five verdicts
+abbrev five : List ℕ
+five = 1 ∷ 0 ∷ 4 ∷ 4 ∷ 4 ∷ 4 ∷ 4 ∷ []
+
+-- a lamp, and the constraint that the latch is 0
+abbrev ending : List ℕ
+ending = 1 ∷ 0 ∷ 4 ∷ 5 ∷ []
 
 -- reset 3
 abbrev broken : List ℕ
@@ -171,9 +184,12 @@ ticks =
     ∷ tick fair good off off one [] gives 10
     ∷ tick fair good off off one one gives 0
     ∷ tick dark good off off one one gives 0
+    ∷ tick (further 0 65 0) short [] [] [] [] gives 3
+    ∷ tick (further 0 0 65) short [] [] [] [] gives 3
+    ∷ tick (further 1 4 0) five off off one one gives 0
     ∷ []
 
--- "Chain: 3, 16, 10 for the table, 11, 12, 13, 15"
+-- "Chain: 3, 16, 10 for the table, 11, 12, 13, 15"; 16 where O + B is 0, and a run that ends needs no more room
 unfoldable pub chains : List (Row ChainGiven)
 chains =
     chain manyDark [] 1001 [] gives 3
@@ -188,6 +204,13 @@ chains =
     ∷ chain fair good 1000 (replicate 65537 0) gives 13
     ∷ chain fair good 0 one gives 15
     ∷ chain fair good 0 (replicate 2 0) gives 0
+    ∷ chain (further 0 65 0) [] 1001 [] gives 3
+    ∷ chain (further 0 0 65) [] 1001 [] gives 3
+    ∷ chain (further 0 0 64) [] 1001 [] gives 16
+    ∷ chain (further 0 64 0) [] 1001 [] gives 10
+    ∷ chain (further 0 1 0) good 0 one gives 15
+    ∷ chain (further 0 1 0) good 0 (replicate 2 0) gives 0
+    ∷ chain (further 1 0 1) ending 0 one gives 0
     ∷ []
 
 -- "Judge: 3, 16, 10 for the table, 11, 10 for the cubes, 14, 19, 10 for results"
@@ -208,9 +231,19 @@ judges =
     ∷ judge fair good made 2 1 [] one gives 10
     ∷ judge fair good made 2 1 one [] gives 10
     ∷ judge fair good made 2 1 one one gives 0
+    ∷ judge (further 0 65 0) [] [] 1 1 [] [] gives 3
+    ∷ judge (further 0 0 65) [] [] 1 1 [] [] gives 3
+    ∷ judge (further 0 0 64) [] [] 1 1 [] [] gives 16
+    ∷ judge (further 0 1 0) good made 1 1 [] [] gives 19
+    ∷ judge (further 0 1 0) good made 2 1 one one gives 0
+    ∷ judge (further 1 4 0) five made 2 1 one one gives 10
+    ∷ judge (further 1 4 0) five made 2 1 (replicate 2 0) one gives 0
+    ∷ judge (further 1 0 1) ending made 0 0 [] [] gives 19
+    ∷ judge (further 1 0 1) ending made 1 1 [] one gives 10
+    ∷ judge (further 1 0 1) ending made 1 1 one one gives 0
     ∷ []
 
--- "Writer: 3, 10 for the table, 11, 10 for the text"; the text of `good` has 22 bytes
+-- "Writer: 3, 10 for the table, 11, 10 for the text"; the text of `good` has 22 bytes, and 24 with a bad state for the lamp
 unfoldable pub writes : List (Row WriteGiven)
 writes =
     write many short [] gives 3
@@ -219,4 +252,8 @@ writes =
     ∷ write fair good (replicate 21 0) gives 10
     ∷ write fair good (replicate 22 0) gives 0
     ∷ write dark good (replicate 20 0) gives 0
+    ∷ write (further 1 65 0) short [] gives 3
+    ∷ write (further 1 0 65) short [] gives 3
+    ∷ write (further 0 1 0) good (replicate 23 0) gives 10
+    ∷ write (further 0 1 0) good (replicate 24 0) gives 0
     ∷ []

@@ -9,4 +9,4 @@ following latches zero = 2 * latches + 1
 following latches (suc i) = 2 * suc i
 
 unfoldable pub ring : ℕ → Circuit
-ring latches = record { inputs = 0; latches = tabulate latches (λ i. record { next = following latches i; reset = 0 }); lamps = []; gates = [] }
+ring latches = record { inputs = 0; latches = tabulate latches (λ i. record { next = following latches i; reset = 0 }); lamps = []; gates = []; bads = []; constraints = [] }

@@ -7,13 +7,13 @@ use lib.Dec.{eqb}
 use Rattle.three.specs.Lists.{tabulate, empty, also}
 use Rattle.circuit.specs.declared.Counts.{Counts}
 use Rattle.circuit.specs.Circuit.{Circuit}
-use Rattle.circuit.specs.Table.{circuitOf}
+use Rattle.circuit.specs.Table.{plainCounts, circuitOf}
 use Rattle.cubes.specs.Judge.{JudgeGiven}
 use Rattle.cubes.specs.Execution.{off, Execution}
 use Rattle.cubes.specs.Run.{resets}
 
 abbrev pub counts : Counts
-counts = record { inputs = 1; latches = 1; lamps = 1; gates = 1 }
+counts = plainCounts 1 1 1 1
 
 abbrev pub words : List ℕ
 words = 2 ∷ 0 ∷ 6 ∷ 4 ∷ 3 ∷ []

@@ -6,13 +6,13 @@ use Prim.Native.Nat.{ℕ}
 use Rattle.three.specs.Lists.{tabulate, empty, also}
 use Rattle.circuit.specs.declared.Counts.{Counts}
 use Rattle.circuit.specs.Circuit.{Circuit}
-use Rattle.circuit.specs.Table.{circuitOf}
+use Rattle.circuit.specs.Table.{plainCounts, circuitOf}
 use Rattle.cubes.specs.Judge.{JudgeGiven}
 use Rattle.cubes.specs.Execution.{off, free, Execution}
 use Rattle.cubes.specs.Run.{resets}
 
 abbrev pub counts : Counts
-counts = record { inputs = 0; latches = 2; lamps = 1; gates = 0 }
+counts = plainCounts 0 2 1 0
 
 abbrev pub words : List ℕ
 words = 0 ∷ 2 ∷ 2 ∷ 0 ∷ 4 ∷ []

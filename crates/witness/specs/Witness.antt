@@ -4,10 +4,11 @@
 use mathlib.Core.List.{List, [], _∷_}
 use Prim.Native.Nat.{ℕ}
 use Rattle.circuit.specs.declared.Counts.{Counts}
+use Rattle.circuit.specs.Table.{plainCounts}
 use Rattle.witness.specs.Answer.{RunGiven, Answer}
 
 abbrev pub counts : Counts
-counts = record { inputs = 0; latches = 4; lamps = 3; gates = 0 }
+counts = plainCounts 0 4 3 0
 
 -- latch 0 becomes 1 and stays, latch 1 swings, latch 2 stays 0, latch 3 follows latch 0; then the three lamps
 abbrev pub words : ℕ → ℕ → ℕ → List ℕ
