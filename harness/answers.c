@@ -1,19 +1,19 @@
 /* Answers a list of vectors from the independent simulator: standard input is stdin of crates/replay_texts or
  * crates/replay_tables, and what is written is its stdout, which the program has to write too. The vectors are described
- * in its src/main.rt. Nothing of the library is linked.
+ * in its src/main.rt. Nothing of the library is linked. COUNTS are the six numbers I L O A B C.
  *
  *   read WORDS BYTES TEXT
  *   any TABLEWORDS LISTWORDS BYTES TEXT
  *   readbinary WORDS BYTES TEXT
  *   readbeginners WORDS BYTES TEXT
- *   write I L O A WORDS w.. BYTES
- *   writebinary I L O A WORDS w.. BYTES
- *   tick I L O A WORDS w.. STATE b.. SWITCHES b.. NEXT LAMPS
- *   chain I L O A WORDS w.. W CUBES
- *   chainbeginners I L O A WORDS w.. CUBES
- *   judge I L O A WORDS w.. CUBES b.. N J VERDICT SETTLED
- *   cover I L O A WORDS w.. CUBES b.. N VERDICT
- *   why I L O A WORDS w.. STATE b.. LAMP WHY
+ *   write COUNTS WORDS w.. BYTES
+ *   writebinary COUNTS WORDS w.. BYTES
+ *   tick COUNTS WORDS w.. STATE b.. SWITCHES b.. NEXT LAMPS
+ *   chain COUNTS WORDS w.. W CUBES
+ *   chainbeginners COUNTS WORDS w.. CUBES
+ *   judge COUNTS WORDS w.. CUBES b.. N J VERDICT SETTLED
+ *   cover COUNTS WORDS w.. CUBES b.. N VERDICT
+ *   why COUNTS WORDS w.. STATE b.. LAMP WHY
  *   merge FIELDS A b.. B b.. MERGED
  */
 #include "binary.h"
@@ -111,6 +111,8 @@ static chudravik_counts take_counts(line_rest *rest)
     counts.latches = take_number(rest);
     counts.lamps = take_number(rest);
     counts.gates = take_number(rest);
+    counts.bads = take_number(rest);
+    counts.constraints = take_number(rest);
     return counts;
 }
 
@@ -204,6 +206,12 @@ static void show_words(const char *name, const uint16_t *words, size_t count)
     }
 }
 
+static void show_counts(chudravik_counts counts)
+{
+    printf(" I %zu L %zu O %zu A %zu B %zu C %zu", counts.inputs, counts.latches, counts.lamps, counts.gates, counts.bads,
+           counts.constraints);
+}
+
 /* A line that cannot be answered by a call has its answer here. */
 static bool is_turned_away(const line_rest *rest, size_t words, size_t longest)
 {
@@ -240,8 +248,8 @@ static void answer_reader(line_rest rest, const char *name, reader *simulate)
     }
     uint16_t *table = lend(words * sizeof *table);
     chudravik_read_answer answer = simulate(text, bytes, table, words);
-    printf("%s number %u I %zu L %zu O %zu A %zu", name, (unsigned)answer.number, answer.counts.inputs,
-           answer.counts.latches, answer.counts.lamps, answer.counts.gates);
+    printf("%s number %u", name, (unsigned)answer.number);
+    show_counts(answer.counts);
     show_words("table", table, words);
     putchar('\n');
     free(table);
@@ -260,8 +268,9 @@ static void answer_any(line_rest rest)
     uint16_t *table = lend(table_words * sizeof *table);
     uint16_t *renumbered = lend(list_words * sizeof *renumbered);
     chudravik_read_any_answer answer = simulate_read_any(text, bytes, table, table_words, renumbered, list_words);
-    printf("any number %u I %zu L %zu O %zu A %zu M %zu", (unsigned)answer.number, answer.counts.inputs,
-           answer.counts.latches, answer.counts.lamps, answer.counts.gates, answer.variables);
+    printf("any number %u", (unsigned)answer.number);
+    show_counts(answer.counts);
+    printf(" M %zu", answer.variables);
     show_words("table", table, table_words);
     show_words("list", renumbered, list_words);
     putchar('\n');

@@ -34,9 +34,9 @@ typedef struct {
 } plan;
 
 static const plan PLANS[] = {
-    {"small", {1, 4, 2, 14}, 4, 0},
-    {"middle", {20, 100, 16, 500}, 5, 70},
-    {"largest", {256, 512, 64, 3327}, 6, 300},
+    {"small", {1, 4, 2, 14, 0, 0}, 4, 0},
+    {"middle", {20, 100, 16, 500, 0, 0}, 5, 70},
+    {"largest", {256, 512, 64, 3327, 0, 0}, 6, 300},
 };
 
 enum { CIRCUITS = sizeof PLANS / sizeof PLANS[0] };
@@ -164,8 +164,8 @@ static void make_table(const plan *p, uint16_t *table)
 
 /* Beginners' boards: a counter again, and gates of chance, with no constant and no gate fed twice by one variable. */
 static const plan BOARDS[] = {
-    {"small", {1, 4, 2, 14}, 4, 0},
-    {"largest", {4, 8, 8, 32}, 8, 0},
+    {"small", {1, 4, 2, 14, 0, 0}, 4, 0},
+    {"largest", {4, 8, 8, 32, 0, 0}, 8, 0},
 };
 
 enum { BOARD_COUNT = sizeof BOARDS / sizeof BOARDS[0] };
@@ -265,7 +265,7 @@ static void make_request(const plan *p, request *r, void table_maker(const plan 
     r->switches_bytes = sizeof r->switches;
     r->w = INTERVAL;
     r->cubes_bytes = CHUDRAVIK_MOST_CUBE_BYTES;
-    r->verdict_bytes = CHUDRAVIK_RECORD_BYTES(CHUDRAVIK_MOST_LAMPS);
+    r->verdict_bytes = CHUDRAVIK_MOST_VERDICT_BYTES;
     r->settled_bytes = CHUDRAVIK_RECORD_BYTES(CHUDRAVIK_MOST_LATCHES);
     r->binary_room = CHUDRAVIK_MOST_BINARY;
     r->binary_bytes =
@@ -298,22 +298,23 @@ typedef struct {
     uint8_t text[CHUDRAVIK_MOST_WRITTEN];
     uint8_t binary[CHUDRAVIK_MOST_BINARY];
     uint8_t next[CHUDRAVIK_RECORD_BYTES(CHUDRAVIK_MOST_LATCHES)];
-    uint8_t lamps[CHUDRAVIK_RECORD_BYTES(CHUDRAVIK_MOST_LAMPS)];
+    uint8_t lamps[CHUDRAVIK_MOST_VERDICT_BYTES];
     uint8_t cubes[CHUDRAVIK_MOST_CUBE_BYTES + 1];
-    uint8_t verdict[CHUDRAVIK_RECORD_BYTES(CHUDRAVIK_MOST_LAMPS)];
+    uint8_t verdict[CHUDRAVIK_MOST_VERDICT_BYTES];
     uint8_t settled[CHUDRAVIK_RECORD_BYTES(CHUDRAVIK_MOST_LATCHES)];
 } buffers;
 
 /* What a call answers, in the order of its struct. */
 typedef struct {
-    size_t numbers[5];
+    size_t numbers[7];
 } answer;
 
 typedef answer call(const request *, buffers *);
 
 static answer of_read(chudravik_read_answer a)
 {
-    return (answer){{a.number, a.counts.inputs, a.counts.latches, a.counts.lamps, a.counts.gates}};
+    return (answer){{a.number, a.counts.inputs, a.counts.latches, a.counts.lamps, a.counts.gates, a.counts.bads,
+                     a.counts.constraints}};
 }
 
 static answer of_write(chudravik_write_answer a)
@@ -424,6 +425,7 @@ static const pair READING_BINARY = {"read b", library_read_binary, c_read_binary
 static const pair WRITING_BINARY = {"writeb", library_write_binary, c_write_binary};
 static const pair TICKING = {"tick", library_tick, c_tick};
 static const pair CHAINING = {"chain", library_chain, c_chain};
+static const pair CHAINING_ASSUMED = {"chain8", library_chain, c_chain};
 static const pair JUDGING = {"judge", library_judge, c_judge};
 static const pair RUNNING = {"both", library_run, c_run};
 static const pair COVERING = {"cover", library_cover, c_cover};
@@ -478,7 +480,15 @@ static void check_texts(const request *sound)
     expect(&READING, &r, CHUDRAVIK_TOO_SHORT);
     r = *sound;
     expect_text(&r, "aag 0 0 0 0\n", CHUDRAVIK_FIRST_LINE);
+    expect_text(&r, "aag 0 0 0 0 0 0 0 0 0 0\n", CHUDRAVIK_FIRST_LINE);
     expect_text(&r, "aag 257 257 0 0 0\n", CHUDRAVIK_COUNTS);
+    expect_text(&r, "aag 0 0 0 0 0 65\n", CHUDRAVIK_COUNTS);
+    expect_text(&r, "aag 0 0 0 0 0 0 65\n", CHUDRAVIK_COUNTS);
+    expect_text(&r, "aag 0 0 0 0 0 0 0 1\n", CHUDRAVIK_COUNTS);
+    expect_text(&r, "aag 0 0 0 0 0 0 0 0 1\n", CHUDRAVIK_COUNTS);
+    expect_text(&r, "aag 0 0 0 0 0 1 1 0 0\n1\n", CHUDRAVIK_BODY_LINE);
+    expect_text(&r, "aag 0 0 0 0 0 1 1 0 0\n1\n2\n", CHUDRAVIK_LITERAL_TOO_LARGE);
+    expect_text(&r, "aag 0 0 0 0 0 1 1 0 0\n1\n0\n", CHUDRAVIK_ACCEPTED);
     expect_text(&r, "aag 1 1 0 0 0\n", CHUDRAVIK_BODY_LINE);
     expect_text(&r, "aag 1 1 0 0 0\n02\n", CHUDRAVIK_BODY_LINE);
     expect_text(&r, "aag 1 1 0 0 0\n4\n", CHUDRAVIK_OWN_LITERAL);
@@ -518,6 +528,8 @@ static void check_binaries(const request *sound)
     EXPECT_BINARY(&r, "aag 0 0 0 0 0\n", CHUDRAVIK_FIRST_LINE);
     EXPECT_BINARY(&r, "aig 0 0 0 0 0\r\n", CHUDRAVIK_FIRST_LINE);
     EXPECT_BINARY(&r, "aig 2 1 0 0 0\n", CHUDRAVIK_COUNTS);
+    EXPECT_BINARY(&r, "aig 0 0 0 0 0 0 65\n", CHUDRAVIK_COUNTS);
+    EXPECT_BINARY(&r, "aig 0 0 0 0 0 1 1\n1\n0\n", CHUDRAVIK_ACCEPTED);
     EXPECT_BINARY(&r, "aig 1 0 1 0 0\n2 2 2\n", CHUDRAVIK_BODY_LINE);
     EXPECT_BINARY(&r, "aig 1 0 1 0 0\n4\n", CHUDRAVIK_LITERAL_TOO_LARGE);
     EXPECT_BINARY(&r, "aig 1 0 1 0 0\n2 3\n", CHUDRAVIK_RESET);
@@ -541,11 +553,17 @@ static void check_circuits(const request *sound)
         r.counts.gates = SIZE_MAX;
         expect(GIVEN[i], &r, CHUDRAVIK_COUNTS);
         r = *sound;
-        r.table_words = CHUDRAVIK_TABLE_WORDS(r.counts.latches, r.counts.lamps, r.counts.gates) - 1;
+        r.table_words = CHUDRAVIK_TABLE_WORDS(r.counts) - 1;
         expect(GIVEN[i], &r, CHUDRAVIK_TOO_SHORT);
         r = *sound;
         r.table[1] = CHUDRAVIK_NO_START + 1;
         expect(GIVEN[i], &r, CHUDRAVIK_TABLE);
+        r = *sound;
+        r.counts.bads = SIZE_MAX;
+        expect(GIVEN[i], &r, CHUDRAVIK_COUNTS);
+        r = *sound;
+        r.counts.constraints = CHUDRAVIK_MOST_CONSTRAINTS + 1;
+        expect(GIVEN[i], &r, CHUDRAVIK_COUNTS);
     }
     r = *sound;
     r.counts.lamps = 0;
@@ -702,6 +720,27 @@ static void check_boards(const request *sound)
     expect(&READING_BOARD, &r, CHUDRAVIK_BEGINNERS);
 }
 
+/* Chains and covers that have ended: constraint 0 is the constant 0. */
+static void check_ends(const request *assumed)
+{
+    static request r;
+    r = *assumed;
+    r.table[2 * r.counts.latches + r.counts.lamps] = 0;
+    expect(&RUNNING, &r, CHUDRAVIK_ACCEPTED);
+    expect(&JUDGING, &r, CHUDRAVIK_ACCEPTED); /* any cubes */
+    r.chained_back = r.chained_cubes;
+    expect(&JUDGING, &r, CHUDRAVIK_ACCEPTED);
+    r.chained_back++;
+    expect(&JUDGING, &r, CHUDRAVIK_NOT_A_CHAIN);
+    r.chained_back = r.chained_cubes = 0;
+    expect(&JUDGING, &r, CHUDRAVIK_ACCEPTED);
+    r.sent_cubes = 0;
+    expect(&COVERING, &r, CHUDRAVIK_ACCEPTED);
+    r = *assumed;
+    r.chained_back = r.chained_cubes;
+    expect(&JUDGING, &r, CHUDRAVIK_NOT_A_CHAIN);
+}
+
 /* ---- times ---- */
 
 static double now(void)
@@ -755,6 +794,21 @@ static times measure(const pair *p, const request *r, size_t rounds)
 
 static request requests[CIRCUITS], deepest, boards[BOARD_COUNT];
 
+/* The same under constraints, each of which is that a switch is on: it is X, so that the chain stores the same cubes, and makes
+ * one pass more over the gates for each. */
+enum { ASSUMED = 8 };
+static request assumed[CIRCUITS];
+
+static void assume(const request *plain, request *r)
+{
+    size_t front = 2 * plain->counts.latches + plain->counts.lamps;
+    *r = *plain;
+    r->counts.constraints = ASSUMED;
+    memcpy(r->table + front + ASSUMED, plain->table + front, 2 * plain->counts.gates * sizeof *r->table);
+    for (size_t i = 0; i < ASSUMED; i++)
+        r->table[front + i] = (uint16_t)(2 * (1 + i % plain->counts.inputs));
+}
+
 /* The same with bytes 13 and 10 at the end of each line; the largest is then over what is read. */
 static request saved[CIRCUITS];
 enum { SAVED = CIRCUITS - 1 };
@@ -785,7 +839,7 @@ static double bytes_of_binary(size_t i)
 static double words_of_table(size_t i)
 {
     const chudravik_counts *c = &requests[i].counts;
-    return (double)CHUDRAVIK_TABLE_WORDS(c->latches, c->lamps, c->gates);
+    return (double)CHUDRAVIK_TABLE_WORDS(*c);
 }
 
 static double bytes_of_record(size_t i)
@@ -854,6 +908,14 @@ static void check_all(void)
     check_questions(&requests[0]);
     check_merges(&requests[0]);
     check_boards(&boards[0]);
+    for (size_t i = 0; i < CIRCUITS; i++) {
+        assume(&requests[i], &assumed[i]);
+        expect(&CHAINING_ASSUMED, &assumed[i], CHUDRAVIK_ACCEPTED);
+        expect(&JUDGING, &assumed[i], CHUDRAVIK_ACCEPTED);
+        expect(&WRITING, &assumed[i], CHUDRAVIK_ACCEPTED);
+        expect(&WRITING_BINARY, &assumed[i], CHUDRAVIK_ACCEPTED);
+        check_ends(&assumed[i]);
+    }
     printf("equal answers and bytes from both sides\n\n");
 }
 
@@ -911,8 +973,9 @@ int main(int argc, char **argv)
     report(&READING_BINARY, requests, CIRCUITS, bytes_of_binary, "bytes of binary text", rounds, NULL);
     report(&WRITING_BINARY, requests, CIRCUITS, bytes_of_binary, "bytes of binary text", rounds, NULL);
     report(&TICKING, requests, CIRCUITS, words_of_table, "words of table", rounds, NULL);
-    double judge[CIRCUITS], both[CIRCUITS];
-    report(&CHAINING, requests, CIRCUITS, words_times_cubes, "words x cubes", rounds, NULL);
+    double judge[CIRCUITS], both[CIRCUITS], chain[CIRCUITS], under[CIRCUITS];
+    report(&CHAINING, requests, CIRCUITS, words_times_cubes, "words x cubes", rounds, chain);
+    report(&CHAINING_ASSUMED, assumed, CIRCUITS, words_times_cubes, "words x cubes", rounds, under);
     report(&JUDGING, requests, CIRCUITS, words_times_cubes, "words x cubes", rounds, judge);
     report(&RUNNING, requests, CIRCUITS, words_times_cubes, "words x cubes", rounds, both);
     report(&COVERING, requests, CIRCUITS, words_times_sent, "words x 512 cubes", rounds, NULL);
@@ -926,6 +989,10 @@ int main(int argc, char **argv)
     printf("\nwith a lamp added, the judge alone for both calls:");
     for (size_t i = 0; i < CIRCUITS; i++) {
         printf(" %s %.2f", PLANS[i].name, judge[i] / both[i]);
+    }
+    printf("\nthe chain under %d constraints, for the chain without:", ASSUMED);
+    for (size_t i = 0; i < CIRCUITS; i++) {
+        printf(" %s %.2f", PLANS[i].name, under[i] / chain[i]);
     }
     printf("\n");
     return 0;

@@ -8,7 +8,7 @@
 #include <stdlib.h>
 #include <string.h>
 
-enum { LONGEST_LINE = 32, LARGEST_NUMBER = 99999, MOST_BYTES = 60000 };
+enum { LONGEST_LINE = 64, LARGEST_NUMBER = 99999, MOST_BYTES = 60000 };
 
 /* ---- lines ---- */
 
@@ -70,14 +70,23 @@ static size_t put_difference(uint8_t *at, size_t difference)
 
 static uint32_t read_first_line(rest *r, chudravik_counts *c)
 {
-    size_t n[5];
+    size_t n[9] = {0}; /* M I L O A B C J F; those left out are 0 */
     if (r->end - r->at < 4 || memcmp(r->at, "aig ", 4) != 0)
         return 2;
     r->at += 4;
-    if (take_line(r, 5, n) != 5)
+    if (take_line(r, 9, n) < 5)
         return 2;
-    *c = (chudravik_counts){n[1], n[2], n[3], n[4]};
-    return n[1] > 256 || n[2] > 512 || n[3] > 64 || n[4] > 3327 || n[0] != n[1] + n[2] + n[4] ? 3 : 0;
+    *c = (chudravik_counts){n[1], n[2], n[3], n[4], n[5], n[6]};
+    return n[1] > 256 || n[2] > 512 || n[3] > 64 || n[4] > 3327 || n[5] > 64 || n[6] > 64 || n[7] + n[8] > 0 ||
+                   n[0] != n[1] + n[2] + n[4]
+               ? 3
+               : 0;
+}
+
+/* Lines of one literal: lamps, then bad states, then constraints. */
+static size_t literals(const chudravik_counts *c)
+{
+    return c->lamps + c->bads + c->constraints;
 }
 
 static uint32_t read_lines(rest *r, const chudravik_counts *c, uint16_t *word)
@@ -94,7 +103,7 @@ static uint32_t read_lines(rest *r, const chudravik_counts *c, uint16_t *word)
         *word++ = (uint16_t)n[0];
         *word++ = (uint16_t)(reset == own ? 2 : reset);
     }
-    for (size_t i = 0; i < c->lamps; i++) {
+    for (size_t i = 0; i < literals(c); i++) {
         if (take_line(r, 1, n) == 0)
             return 4;
         if (n[0] > top)
@@ -124,13 +133,18 @@ static bool is_ended(const rest *r)
     return r->at == r->end || (r->end - r->at >= 2 && memcmp(r->at, "c\n", 2) == 0);
 }
 
+static size_t words(const chudravik_counts *c)
+{
+    return 2 * c->latches + literals(c) + 2 * c->gates;
+}
+
 static uint32_t read_all(rest *r, chudravik_counts *c, uint16_t *word)
 {
     uint32_t number = read_first_line(r, c);
     if (number == 0)
         number = read_lines(r, c, word);
     if (number == 0)
-        number = read_gates(r, c, word + 2 * c->latches + c->lamps);
+        number = read_gates(r, c, word + 2 * c->latches + literals(c));
     return number != 0 ? number : is_ended(r) ? 0 : 9;
 }
 
@@ -141,11 +155,11 @@ chudravik_read_answer simulate_read_binary(const uint8_t *binary, size_t binary_
     chudravik_counts c;
     rest r = {binary, binary + binary_bytes};
     uint32_t number = binary_bytes > MOST_BYTES ? 1 : read_all(&r, &c, word);
-    if (number == 0 && table_words < CHUDRAVIK_TABLE_WORDS(c.latches, c.lamps, c.gates))
+    if (number == 0 && table_words < words(&c))
         number = 10;
     if (number != 0)
         return (chudravik_read_answer){.number = number};
-    memcpy(table, word, sizeof *word * CHUDRAVIK_TABLE_WORDS(c.latches, c.lamps, c.gates));
+    memcpy(table, word, sizeof *word * words(&c));
     return (chudravik_read_answer){0, c};
 }
 
@@ -158,18 +172,29 @@ static uint32_t refusal(chudravik_counts counts, const uint16_t *table, size_t t
     return simulate_write(counts, table, table_words, text, sizeof text).number;
 }
 
+/* The counts as far as there is one that is not 0, the first five always. */
+static size_t put_first_line(char *at, size_t room, chudravik_counts c)
+{
+    size_t number[] = {c.inputs + c.latches + c.gates, c.inputs, c.latches, c.lamps, c.gates, c.bads, c.constraints};
+    size_t shown = sizeof number / sizeof *number, bytes = (size_t)snprintf(at, room, "aig");
+    while (shown > 5 && number[shown - 1] == 0)
+        shown--;
+    for (size_t i = 0; i < shown; i++)
+        bytes += (size_t)snprintf(at + bytes, room - bytes, " %zu", number[i]);
+    at[bytes++] = '\n';
+    return bytes;
+}
+
 static size_t put_lines(char *at, size_t room, chudravik_counts c, const uint16_t *word)
 {
-    size_t own = 2 * (1 + c.inputs), bytes;
-    bytes = (size_t)snprintf(at, room, "aig %zu %zu %zu %zu %zu\n", c.inputs + c.latches + c.gates, c.inputs, c.latches,
-                             c.lamps, c.gates);
+    size_t own = 2 * (1 + c.inputs), bytes = put_first_line(at, room, c);
     for (size_t i = 0; i < c.latches; i++, own += 2, word += 2) {
         bytes += (size_t)snprintf(at + bytes, room - bytes, "%u", word[0]);
         if (word[1] != 0)
             bytes += (size_t)snprintf(at + bytes, room - bytes, " %zu", word[1] == 1 ? 1 : own);
         at[bytes++] = '\n';
     }
-    for (size_t i = 0; i < c.lamps; i++)
+    for (size_t i = 0; i < literals(&c); i++)
         bytes += (size_t)snprintf(at + bytes, room - bytes, "%u\n", *word++);
     return bytes;
 }
@@ -194,7 +219,7 @@ chudravik_write_answer simulate_write_binary(chudravik_counts counts, const uint
     if (number != 0)
         return (chudravik_write_answer){.number = number};
     size_t bytes = put_lines((char *)made, sizeof made, counts, table);
-    bytes += put_gates(made + bytes, counts, table + 2 * counts.latches + counts.lamps);
+    bytes += put_gates(made + bytes, counts, table + 2 * counts.latches + literals(&counts));
     if (binary_bytes < bytes)
         return (chudravik_write_answer){.number = 10};
     memcpy(binary, made, bytes);

@@ -1,18 +1,20 @@
 /* No verdict is contradicted by random Boolean simulation: boolean TICKS [SEED] [FILE..]
  *
- * Reads the given circuits and random ones of its own, chains and judges each with several intervals and buffers, and where
- * a chain is closed lets 64 executions of the circuit go in plain Booleans, with random switches, each from a random state
- * that the resets allow. At each tick t the lamps must
+ * Reads the given circuits and random ones of its own, chains and judges each with several intervals and buffers, and
+ * where a chain is closed or has ended lets 64 executions of the circuit go in plain Booleans, with random switches,
+ * each from a random state that the resets allow. Where a constraint is 0 an execution is no longer legal and stops; the
+ * switches are drawn anew a few times before it does. At each tick t the lamps and bad states of those that go on must
  * agree with the verdict, from tick j on the latches with the settled record, and the state must lie inside cube t, or
- * from tick n on inside cube j + (t - j) mod (n - j). The same of chains that no call made: one with fields forgotten, and
- * more of them until each next state lies inside what follows, which must be accepted; and one with a single field
- * forgotten, which may be refused. The same of covers: the cubes of a closed chain in another order,
- * which must be accepted with the chain's verdict; the one cube that comes of merging states until nothing is new; and a cube
- * for each value of a latch, which may be refused. At each tick the state must lie inside one of the cubes, and the lamps
- * agree with the verdict. And of why: where a lamp is known in a cube of a chain, it has that value in every state that
- * agrees with the latches that force it, under any switches. TICKS is how many ticks are done at least, each execution's
- * counted; half of them go to the files. Exits 1, with the circuit's text, on a contradiction; and where TICKS is a
- * million or more, if too few verdicts came up to mean anything.
+ * from tick n on inside cube j + (t - j) mod (n - j); and where the chain has ended none goes on at tick n. The same of
+ * chains that no call made: one with fields forgotten, and more of them until each next state lies inside what follows,
+ * which must be accepted; and one with a single field forgotten, which may be refused. The same of covers: the cubes of
+ * a closed chain in another order,
+ * which must be accepted with the chain's verdict; the one cube that comes of merging states until nothing is new; and a
+ * cube for each value of a latch, which may be refused. At each tick the state must lie inside one of the cubes, and the
+ * lamps agree with the verdict. And of why: where a lamp is known in a cube of a chain, it has that value in every state
+ * that agrees with the latches that force it, under any switches. TICKS is how many ticks are done at least, each
+ * execution's counted; half of them go to the files. Exits 1, with the circuit's text, on a contradiction; and where
+ * TICKS is ten million or more, if too few verdicts came up to mean anything.
  *
  * An answer that is weaker than it might be (open in place of never) contradicts nothing, and is not found here. */
 #include <ctype.h>
@@ -28,7 +30,7 @@
 /* A run for each interval, and one for each kind of chain that no call made. */
 enum { INTERVALS = 4, MENDED = INTERVALS, ROUGH, RUNS };
 
-enum { EXECUTIONS = 64, HINTS = 64, MANY_TICKS = 1000000, LEAST_OF_A_KIND = 100, MOST_BLURRED = 300 };
+enum { EXECUTIONS = 64, REDRAWN = 6, STARTS = 16, HINTS = 64, MANY_TICKS = 10000000, LEAST_OF_A_KIND = 100, MOST_BLURRED = 300 };
 
 static const size_t intervals[INTERVALS] = {0, 1, 2, 16};
 
@@ -43,10 +45,10 @@ struct circuit {
 struct run {
     size_t w;
     size_t cubes_bytes;
-    bool closed;
+    bool judged;
     size_t n, j, s;
     uint8_t cubes[CHUDRAVIK_MOST_CUBE_BYTES];
-    uint8_t verdict[CHUDRAVIK_RECORD_BYTES(CHUDRAVIK_MOST_LAMPS)];
+    uint8_t verdict[CHUDRAVIK_MOST_VERDICT_BYTES];
     uint8_t settled[CHUDRAVIK_RECORD_BYTES(CHUDRAVIK_MOST_LATCHES)];
 };
 
@@ -54,13 +56,14 @@ struct sent {
     bool accepted;
     size_t n;
     uint8_t cubes[CHUDRAVIK_MOST_CUBE_BYTES];
-    uint8_t verdict[CHUDRAVIK_RECORD_BYTES(CHUDRAVIK_MOST_LAMPS)];
+    uint8_t verdict[CHUDRAVIK_MOST_VERDICT_BYTES];
 };
 
 enum { OF_CHAIN, OF_MERGE, OF_LATCH, COVERS };
 
 static struct {
     uint64_t circuits, files, runs, closed, no_room, mended, rough, rough_refused, never, always, open, open_seen_both, settled, free_starts, ticks;
+    uint64_t ended, ended_at_once, ended_later, constrained, stopped, bads_never, bads_always;
     uint64_t accepted[COVERS], refused, sent_never, sent_always, forced, forced_free;
 } sum;
 
@@ -103,12 +106,18 @@ static _Noreturn void cover_contradicted(const struct sent *sent, const char *wh
 /* ---- the circuit in plain Booleans: bit e of a word is the value in execution e ---- */
 
 static uint64_t value[CHUDRAVIK_MOST_VARIABLES + 1];
-static uint64_t lamps[CHUDRAVIK_MOST_LAMPS];
+static uint64_t watched[CHUDRAVIK_MOST_LAMPS + CHUDRAVIK_MOST_BADS]; /* the lamps, then the bad states */
+static uint64_t constraints_kept;                                    /* by which executions, at this tick */
 static uint64_t *const switches = value + 1;
 
 static uint64_t value_of(uint16_t literal)
 {
     return value[literal >> 1] ^ (literal & 1 ? UINT64_MAX : 0);
+}
+
+static size_t watched_count(void)
+{
+    return circuit.counts.lamps + circuit.counts.bads;
 }
 
 static uint64_t *state(void)
@@ -144,12 +153,29 @@ static void move_switches(void)
 static void pass_gates(void)
 {
     const uint16_t *lamp = circuit.table + 2 * circuit.counts.latches;
-    const uint16_t *operand = lamp + circuit.counts.lamps;
+    const uint16_t *constraint = lamp + watched_count();
+    const uint16_t *operand = constraint + circuit.counts.constraints;
     uint64_t *gate = state() + circuit.counts.latches;
     for (size_t i = 0; i < circuit.counts.gates; i++)
         gate[i] = value_of(operand[2 * i]) & value_of(operand[2 * i + 1]);
-    for (size_t i = 0; i < circuit.counts.lamps; i++)
-        lamps[i] = value_of(lamp[i]);
+    for (size_t i = 0; i < watched_count(); i++)
+        watched[i] = value_of(lamp[i]);
+    constraints_kept = UINT64_MAX;
+    for (size_t i = 0; i < circuit.counts.constraints; i++)
+        constraints_kept &= value_of(constraint[i]);
+}
+
+/* Moves the switches and passes the gates. Where a constraint is 0 the switches of that execution are drawn anew. */
+static void go_on(uint64_t legal)
+{
+    move_switches();
+    pass_gates();
+    for (size_t times = 0; times < REDRAWN && (legal & ~constraints_kept) != 0; times++) {
+        uint64_t anew = legal & ~constraints_kept;
+        for (size_t i = 0; i < circuit.counts.inputs; i++)
+            switches[i] = (switches[i] & ~anew) | (draw() & anew);
+        pass_gates();
+    }
 }
 
 static void tick(void)
@@ -188,53 +214,89 @@ static size_t cube_of_tick(const struct run *run, uint64_t t)
     return run->j + (size_t)((t - run->j) % (run->n - run->j));
 }
 
-static void check_tick(const struct run *run, uint64_t t)
+static bool has_ended(const struct run *run)
+{
+    return run->j == run->n;
+}
+
+/* Of the executions that are legal at this tick. */
+static void check_tick(const struct run *run, uint64_t t, uint64_t legal)
 {
     size_t latches = circuit.counts.latches;
+    if (has_ended(run) && t >= run->n) {
+        if (legal)
+            contradicted(run, "end", t, legal);
+        return;
+    }
     const uint8_t *cube = run->cubes + cube_of_tick(run, t) * CHUDRAVIK_CUBE_BYTES(latches);
-    uint64_t strays = outside_cube(cube, state(), latches);
+    uint64_t strays = legal & outside_cube(cube, state(), latches);
     if (strays)
         contradicted(run, "cube", t, strays);
-    strays = outside(run->verdict, 0, lamps, circuit.counts.lamps);
+    strays = legal & outside(run->verdict, 0, watched, watched_count());
     if (strays)
         contradicted(run, "verdict", t, strays);
-    strays = t < run->j ? 0 : outside(run->settled, 0, state(), latches);
+    strays = t < run->j ? 0 : legal & outside(run->settled, 0, state(), latches);
     if (strays)
         contradicted(run, "settled record", t, strays);
 }
 
-/* Each execution has to be inside some cube, not all of them in the same. */
-static void check_cover(const struct sent *sent, uint64_t t)
+/* Each legal execution has to be inside some cube, not all of them in the same. */
+static void check_cover(const struct sent *sent, uint64_t t, uint64_t legal)
 {
     size_t latches = circuit.counts.latches;
-    uint64_t strays = UINT64_MAX;
+    uint64_t strays = legal;
     for (size_t k = 0; k < sent->n && strays; k++)
         strays &= outside_cube(sent->cubes + k * CHUDRAVIK_CUBE_BYTES(latches), state(), latches);
     if (strays)
         cover_contradicted(sent, "no cube", t);
-    if (outside(sent->verdict, 0, lamps, circuit.counts.lamps))
+    if (legal & outside(sent->verdict, 0, watched, watched_count()))
         cover_contradicted(sent, "the verdict", t);
 }
 
-static void simulate(uint64_t ticks, uint64_t *seen_lit, uint64_t *seen_dark)
+static void check_all(uint64_t t, uint64_t legal)
 {
-    start();
-    for (uint64_t t = 0; t < ticks; t++) {
-        move_switches();
-        pass_gates();
+    for (size_t r = 0; r < RUNS; r++)
+        if (runs[r].judged)
+            check_tick(&runs[r], t, legal);
+    for (size_t s = 0; s < COVERS; s++)
+        if (covers[s].accepted)
+            check_cover(&covers[s], t, legal);
+}
+
+static uint64_t bits(uint64_t word)
+{
+    uint64_t count = 0;
+    for (; word != 0; word &= word - 1)
+        count++;
+    return count;
+}
+
+/* Until the ticks are over or no execution is legal any more; answers how many there were. */
+static uint64_t simulate_once(uint64_t ticks, uint64_t *seen_lit, uint64_t *seen_dark)
+{
+    uint64_t legal = UINT64_MAX, t = 0;
+    for (start(); t < ticks; t++) {
+        go_on(legal);
+        sum.stopped += bits(legal & ~constraints_kept);
+        legal &= constraints_kept;
         for (size_t i = 0; i < circuit.counts.lamps; i++) {
-            seen_lit[i] |= lamps[i];
-            seen_dark[i] |= ~lamps[i];
+            seen_lit[i] |= legal & watched[i];
+            seen_dark[i] |= legal & ~watched[i];
         }
-        for (size_t r = 0; r < RUNS; r++)
-            if (runs[r].closed)
-                check_tick(&runs[r], t);
-        for (size_t s = 0; s < COVERS; s++)
-            if (covers[s].accepted)
-                check_cover(&covers[s], t);
+        check_all(t, legal);
+        if (legal == 0)
+            break;
+        sum.ticks += bits(legal);
         tick();
     }
-    sum.ticks += ticks * EXECUTIONS;
+    return t;
+}
+
+/* Those that have all stopped start again, a few times where they do not come far. */
+static void simulate(uint64_t ticks, uint64_t *seen_lit, uint64_t *seen_dark)
+{
+    for (uint64_t done = 0, times = 0; done < ticks && times < STARTS; times++)
+        done += simulate_once(ticks - done, seen_lit, seen_dark);
 }
 
 /* ---- runs ---- */
@@ -270,8 +332,10 @@ static void check_chain(const struct run *run, chudravik_chain_answer answer)
         fail("chain", "refused", answer.number);
     if (answer.number == CHUDRAVIK_NO_ROOM && run->w != 0 && promised_bytes(run->w) <= run->cubes_bytes)
         fail("chain", "not closed within w x latches + 1 cubes", answer.number);
-    if (answer.number == CHUDRAVIK_ACCEPTED && (answer.back >= answer.cubes || answer.cubes > room))
+    if (answer.number == CHUDRAVIK_ACCEPTED && (answer.back > answer.cubes || answer.cubes > room))
         fail("chain", "closed with n and j that cannot be", answer.number);
+    if (answer.number == CHUDRAVIK_ACCEPTED && answer.back == answer.cubes && circuit.counts.constraints == 0)
+        fail("chain", "ended without constraints", answer.number);
     for (size_t k = 0; k < answer.cubes; k++) {
         bool due = k != 0 && run->w != 0 && k % run->w == 0;
         if (CHUDRAVIK_MARK(run->cubes + k * CHUDRAVIK_CUBE_BYTES(circuit.counts.latches)) != (due ? CHUDRAVIK_WIDENED : CHUDRAVIK_PLAIN))
@@ -279,15 +343,15 @@ static void check_chain(const struct run *run, chudravik_chain_answer answer)
     }
 }
 
-/* Hands the cubes to the judge; a run whose chain it refuses is not closed. */
+/* Hands the cubes to the judge. */
 static uint32_t judge_run(struct run *run)
 {
     chudravik_judge_answer answer =
         chudravik_judge(circuit.counts, circuit.table, circuit.words, run->cubes, sizeof run->cubes, run->n, run->j,
                         run->verdict, sizeof run->verdict, run->settled, sizeof run->settled);
-    run->closed = answer.number == CHUDRAVIK_ACCEPTED;
+    run->judged = answer.number == CHUDRAVIK_ACCEPTED;
     run->s = answer.settled;
-    if (run->closed && run->s != known_fields(run->settled, circuit.counts.latches))
+    if (run->judged && run->s != known_fields(run->settled, circuit.counts.latches))
         fail("judge", "s is not the count of the settled record", answer.number);
     return answer.number;
 }
@@ -301,12 +365,16 @@ static void do_run(struct run *run, size_t w)
     check_chain(run, answer);
     run->n = answer.cubes;
     run->j = answer.back;
-    run->closed = false;
+    run->judged = false;
     if (answer.number == CHUDRAVIK_ACCEPTED && judge_run(run) != CHUDRAVIK_ACCEPTED)
         fail("judge", "refused what the chain made", 0);
     sum.runs++;
-    sum.closed += run->closed;
-    sum.no_room += !run->closed;
+    sum.closed += run->judged && !has_ended(run);
+    sum.ended += run->judged && has_ended(run);
+    sum.ended_at_once += run->judged && run->n == 0;
+    sum.ended_later += run->judged && has_ended(run) && run->n > 1;
+    sum.constrained += run->judged && !has_ended(run) && circuit.counts.constraints > 0;
+    sum.no_room += !run->judged;
 }
 
 /* ---- chains that no call made ---- */
@@ -350,10 +418,10 @@ static void forget_field(struct run *run)
 static bool copy_chain(struct run *to, const struct run *from)
 {
     size_t record = CHUDRAVIK_CUBE_BYTES(circuit.counts.latches);
-    if (!from->closed || from->n > MOST_BLURRED || (from->n + 1) * record > sizeof to->cubes)
+    if (!from->judged || has_ended(from) || from->n > MOST_BLURRED || (from->n + 1) * record > sizeof to->cubes)
         return false;
     *to = *from;
-    to->closed = false;
+    to->judged = false;
     if (from->j == 0) {
         memcpy(to->cubes + from->n * record, from->cubes, record);
         to->n = from->n + 1;
@@ -377,7 +445,7 @@ static void mend(struct run *run)
 
 static void blur_chains(const struct run *run)
 {
-    runs[MENDED].closed = runs[ROUGH].closed = false;
+    runs[MENDED].judged = runs[ROUGH].judged = false;
     if (copy_chain(&runs[MENDED], run)) {
         for (size_t times = 1 + below(3); times > 0; times--)
             forget_field(&runs[MENDED]);
@@ -405,6 +473,10 @@ static void count_checked(const struct run *run, const uint64_t *seen_lit, const
         sum.always += field == CHUDRAVIK_HIGH;
         sum.open += field == CHUDRAVIK_UNKNOWN;
         sum.open_seen_both += field == CHUDRAVIK_UNKNOWN && seen_lit[i] && seen_dark[i];
+    }
+    for (size_t i = circuit.counts.lamps; i < watched_count(); i++) {
+        sum.bads_never += run->n > 0 && CHUDRAVIK_FIELD(run->verdict, i) == CHUDRAVIK_LOW;
+        sum.bads_always += CHUDRAVIK_FIELD(run->verdict, i) == CHUDRAVIK_HIGH;
     }
     sum.settled += run->s;
 }
@@ -439,8 +511,8 @@ static void send_chain(struct sent *sent, const struct run *run)
     for (size_t k = 0; k < sent->n; k++)
         memcpy(sent->cubes + (sent->n - 1 - k) * record, run->cubes + k * record, record);
     if (send_cover(sent) != CHUDRAVIK_ACCEPTED ||
-        memcmp(sent->verdict, run->verdict, CHUDRAVIK_RECORD_BYTES(circuit.counts.lamps)) != 0)
-        fail("cover", "the cubes of a closed chain are refused, or judged otherwise", 0);
+        memcmp(sent->verdict, run->verdict, CHUDRAVIK_RECORD_BYTES(watched_count())) != 0)
+        fail("cover", "the cubes of a chain are refused, or judged otherwise", 0);
 }
 
 static unsigned start_field(uint16_t reset)
@@ -479,7 +551,7 @@ static void send_latch(struct sent *sent)
 static void send_covers(const struct run *run)
 {
     covers[OF_CHAIN].accepted = covers[OF_LATCH].accepted = false;
-    if (run->closed)
+    if (run->judged)
         send_chain(&covers[OF_CHAIN], run);
     send_merge(&covers[OF_MERGE]);
     if (circuit.counts.latches > 0)
@@ -514,12 +586,12 @@ static void force_lamp(const uint8_t *given, size_t lamp)
         fail("why", "refused", number);
     start_inside(why);
     pass_gates();
-    if (lamps[lamp] != 0 && lamps[lamp] != UINT64_MAX)
+    if (watched[lamp] != 0 && watched[lamp] != UINT64_MAX)
         fail("why", "the latches named do not force the lamp", (uint32_t)lamp);
-    uint64_t forced = lamps[lamp];
+    uint64_t forced = watched[lamp];
     start_inside(given);
     pass_gates();
-    if (lamps[lamp] != forced)
+    if (watched[lamp] != forced)
         fail("why", "the latches named force the lamp otherwise", (uint32_t)lamp);
     sum.forced++;
 }
@@ -527,16 +599,19 @@ static void force_lamp(const uint8_t *given, size_t lamp)
 static void force_lamps(const struct run *run)
 {
     uint8_t given[CHUDRAVIK_RECORD_BYTES(CHUDRAVIK_MOST_LATCHES)];
+    if (run->n == 0)
+        return;
     state_of_cube(run->cubes + below(run->n) * CHUDRAVIK_CUBE_BYTES(circuit.counts.latches), circuit.counts.latches, given);
     for (size_t i = 0; i < circuit.counts.lamps; i++)
         force_lamp(given, i);
 }
 
-/* Goes at least twice through the longest closed chain, so that each cube of its round is met again. */
+/* Goes at least twice through the longest chain, so that each cube of a round is met again. */
 static void examine(uint64_t least_ticks)
 {
     uint64_t seen_lit[CHUDRAVIK_MOST_LAMPS] = {0}, seen_dark[CHUDRAVIK_MOST_LAMPS] = {0};
     uint64_t longest = 0;
+    bool judged = false;
     sum.circuits++;
     for (size_t r = 0; r < INTERVALS; r++)
         do_run(&runs[r], intervals[r]);
@@ -544,15 +619,17 @@ static void examine(uint64_t least_ticks)
     blur_chains(run);
     send_covers(run);
     force_lamps(run);
-    for (size_t r = 0; r < RUNS; r++)
-        if (runs[r].closed && runs[r].n > longest)
+    for (size_t r = 0; r < RUNS; r++) {
+        judged |= runs[r].judged;
+        if (runs[r].judged && runs[r].n > longest)
             longest = runs[r].n;
-    if (longest == 0)
+    }
+    if (!judged)
         return;
     uint64_t ticks = 2 * longest + 64;
     simulate(ticks < least_ticks ? least_ticks : ticks, seen_lit, seen_dark);
     for (size_t r = 0; r < RUNS; r++)
-        if (runs[r].closed)
+        if (runs[r].judged)
             count_checked(&runs[r], seen_lit, seen_dark);
 }
 
@@ -563,7 +640,7 @@ static void read_circuit(const char *who)
     if (answer.number != CHUDRAVIK_ACCEPTED)
         fail(who, "refused by the reader", answer.number);
     circuit.counts = answer.counts;
-    circuit.words = CHUDRAVIK_TABLE_WORDS(answer.counts.latches, answer.counts.lamps, answer.counts.gates);
+    circuit.words = CHUDRAVIK_TABLE_WORDS(answer.counts);
 }
 
 /* ---- random circuits: pieces that pupils draw, wired together at random ---- */
@@ -572,6 +649,7 @@ static void read_circuit(const char *who)
 static struct {
     chudravik_counts counts;
     uint16_t next[CHUDRAVIK_MOST_LATCHES], reset[CHUDRAVIK_MOST_LATCHES], lamp[CHUDRAVIK_MOST_LAMPS];
+    uint16_t bad[CHUDRAVIK_MOST_BADS], constraint[CHUDRAVIK_MOST_CONSTRAINTS];
     uint16_t operand[CHUDRAVIK_MOST_GATES][2];
     uint16_t hint[HINTS];
     size_t hints;
@@ -735,6 +813,47 @@ static uint16_t draw_lamp(void)
     }
 }
 
+/* Whether a literal is 0 in every start, by 64 of them, with random switches: the draft's own gates. */
+static bool is_low_at_start(uint16_t literal)
+{
+    static uint64_t at_start[CHUDRAVIK_MOST_VARIABLES + 1];
+    size_t first = 1 + draft.counts.inputs;
+    at_start[0] = 0;
+    for (size_t i = 1; i < first; i++)
+        at_start[i] = draw();
+    for (size_t i = 0; i < draft.counts.latches; i++)
+        at_start[first + i] = draft.reset[i] == CHUDRAVIK_NO_START ? draw() : draft.reset[i] == 1 ? UINT64_MAX : 0;
+    for (size_t i = 0; i < draft.counts.gates; i++) {
+        uint16_t a = draft.operand[i][0], b = draft.operand[i][1];
+        at_start[first + draft.counts.latches + i] =
+            (at_start[a / 2] ^ (a % 2 ? UINT64_MAX : 0)) & (at_start[b / 2] ^ (b % 2 ? UINT64_MAX : 0));
+    }
+    return at_start[literal / 2] == (literal % 2 ? UINT64_MAX : 0);
+}
+
+/* Two switches that are never both on, or what a piece is built never or always to do; seldom what is 0 from the start
+ * on. */
+static uint16_t draw_constraint(void)
+{
+    if (draft.counts.inputs >= 2 && one_in(3))
+        return both(2, 4) ^ 1;
+    uint16_t literal = one_in(2) && draft.hints > 0 ? draft.hint[below(draft.hints)] : any_literal();
+    return is_low_at_start(literal) && !one_in(8) ? literal ^ 1 : literal;
+}
+
+/* Half of the circuits have neither. */
+static void draw_assumptions(void)
+{
+    draft.counts.bads = draft.counts.constraints = 0;
+    if (one_in(2))
+        return;
+    size_t bads = below(5), constraints = below(4);
+    while (draft.counts.bads < bads)
+        draft.bad[draft.counts.bads++] = draw_lamp();
+    while (draft.counts.constraints < constraints)
+        draft.constraint[draft.counts.constraints++] = draw_constraint();
+}
+
 static void draw_draft(void)
 {
     draft.hints = 0;
@@ -747,6 +866,7 @@ static void draw_draft(void)
     draft.counts.lamps = 1 + below(one_in(16) ? CHUDRAVIK_MOST_LAMPS : 11);
     for (size_t i = 0; i < draft.counts.lamps; i++)
         draft.lamp[i] = draw_lamp();
+    draw_assumptions();
 }
 
 static void add_numbers(const char *before, size_t count, const size_t *numbers)
@@ -767,19 +887,26 @@ static size_t reset_shown(size_t own, uint16_t reset)
     return reset == CHUDRAVIK_NO_START ? own : reset;
 }
 
-/* A reset of 0 is sometimes written out: a reader must take both. */
+/* A reset of 0 is sometimes written out, and so are numbers of the first line that may be left out: a reader must take
+ * both. */
 static void write_draft(void)
 {
     chudravik_counts n = draft.counts;
     size_t own = 2;
     circuit.text_bytes = 0;
-    add_numbers("aag", 5, (size_t[]){n.inputs + n.latches + n.gates, n.inputs, n.latches, n.lamps, n.gates});
+    size_t least = n.constraints > 0 ? 7 : n.bads > 0 ? 6 : 5;
+    add_numbers("aag", one_in(2) ? least : least + below(10 - least),
+                (size_t[]){n.inputs + n.latches + n.gates, n.inputs, n.latches, n.lamps, n.gates, n.bads, n.constraints, 0, 0});
     for (size_t i = 0; i < n.inputs; i++, own += 2)
         add_numbers("", 1, &own);
     for (size_t i = 0; i < n.latches; i++, own += 2)
         add_numbers("", draft.reset[i] || one_in(4) ? 3 : 2, (size_t[]){own, draft.next[i], reset_shown(own, draft.reset[i])});
     for (size_t i = 0; i < n.lamps; i++)
         add_numbers("", 1, (size_t[]){draft.lamp[i]});
+    for (size_t i = 0; i < n.bads; i++)
+        add_numbers("", 1, (size_t[]){draft.bad[i]});
+    for (size_t i = 0; i < n.constraints; i++)
+        add_numbers("", 1, (size_t[]){draft.constraint[i]});
     for (size_t i = 0; i < n.gates; i++, own += 2)
         add_numbers("", 3, (size_t[]){own, draft.operand[i][0], draft.operand[i][1]});
 }
@@ -788,11 +915,16 @@ static int table_is_draft(void)
 {
     const uint16_t *word = circuit.table;
     int same = circuit.counts.inputs == draft.counts.inputs && circuit.counts.latches == draft.counts.latches &&
-               circuit.counts.lamps == draft.counts.lamps && circuit.counts.gates == draft.counts.gates;
+               circuit.counts.lamps == draft.counts.lamps && circuit.counts.gates == draft.counts.gates &&
+               circuit.counts.bads == draft.counts.bads && circuit.counts.constraints == draft.counts.constraints;
     for (size_t i = 0; same && i < draft.counts.latches; i++, word += 2)
         same = word[0] == draft.next[i] && word[1] == draft.reset[i];
     for (size_t i = 0; same && i < draft.counts.lamps; i++, word++)
         same = word[0] == draft.lamp[i];
+    for (size_t i = 0; same && i < draft.counts.bads; i++, word++)
+        same = word[0] == draft.bad[i];
+    for (size_t i = 0; same && i < draft.counts.constraints; i++, word++)
+        same = word[0] == draft.constraint[i];
     for (size_t i = 0; same && i < draft.counts.gates; i++, word += 2)
         same = word[0] == draft.operand[i][0] && word[1] == draft.operand[i][1];
     return same;
@@ -834,7 +966,12 @@ static int number_of(const char *word, uint64_t *number)
 static void print_sum(void)
 {
     printf("circuits %" PRIu64 ", of them from files %" PRIu64 "\n", sum.circuits, sum.files);
-    printf("chains %" PRIu64 ": closed %" PRIu64 ", no room %" PRIu64 "\n", sum.runs, sum.closed, sum.no_room);
+    printf("chains %" PRIu64 ": closed %" PRIu64 ", ended %" PRIu64 ", no room %" PRIu64 "\n", sum.runs, sum.closed,
+           sum.ended, sum.no_room);
+    printf("with constraints: closed %" PRIu64 ", ended with no cube %" PRIu64 ", with more than one %" PRIu64
+           "; executions that stopped %" PRIu64 "\n",
+           sum.constrained, sum.ended_at_once, sum.ended_later, sum.stopped);
+    printf("bad states: never %" PRIu64 ", always %" PRIu64 "\n", sum.bads_never, sum.bads_always);
     printf("chains that no call made: mended %" PRIu64 ", rough %" PRIu64 ", refused %" PRIu64 "\n", sum.mended, sum.rough,
            sum.rough_refused);
     printf("verdicts: never %" PRIu64 ", always %" PRIu64 ", open %" PRIu64 " (seen both lit and dark %" PRIu64 ")\n",
@@ -872,7 +1009,9 @@ int main(int argc, char **argv)
         (sum.never < LEAST_OF_A_KIND || sum.always < LEAST_OF_A_KIND || sum.settled < LEAST_OF_A_KIND ||
          sum.free_starts < LEAST_OF_A_KIND || sum.forced < LEAST_OF_A_KIND || sum.forced_free < LEAST_OF_A_KIND || sum.mended < LEAST_OF_A_KIND || sum.rough < LEAST_OF_A_KIND ||
          sum.rough_refused < LEAST_OF_A_KIND || sum.sent_never < LEAST_OF_A_KIND || sum.sent_always < LEAST_OF_A_KIND ||
-         sum.accepted[OF_LATCH] < LEAST_OF_A_KIND || sum.refused < LEAST_OF_A_KIND)) {
+         sum.accepted[OF_LATCH] < LEAST_OF_A_KIND || sum.refused < LEAST_OF_A_KIND ||
+         sum.ended_at_once < LEAST_OF_A_KIND || sum.ended_later < LEAST_OF_A_KIND || sum.constrained < LEAST_OF_A_KIND ||
+         sum.stopped < LEAST_OF_A_KIND || sum.bads_never < LEAST_OF_A_KIND || sum.bads_always < LEAST_OF_A_KIND)) {
         fprintf(stderr, "boolean: too few verdicts of a kind\n");
         return 1;
     }

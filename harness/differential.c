@@ -24,10 +24,12 @@ enum {
     LATCHES_CEILING = 512,
     LAMPS_CEILING = 64,
     GATES_CEILING = 3327,
-    WORDS_CEILING = 2 * LATCHES_CEILING + LAMPS_CEILING + 2 * GATES_CEILING,
+    BADS_CEILING = 64,
+    CONSTRAINTS_CEILING = 64,
+    WORDS_CEILING = 2 * LATCHES_CEILING + LAMPS_CEILING + BADS_CEILING + CONSTRAINTS_CEILING + 2 * GATES_CEILING,
     TEXT_CEILING = 60000,
-    WRITTEN_CEILING = 58415,
-    BINARY_CEILING = 18530,
+    WRITTEN_CEILING = 59061,
+    BINARY_CEILING = 19176,
     NO_START = 2,
     CUBES_CEILING = 65536,
     LONGEST_TEXT = 70000 /* that is made here, so that 1 is met too */
@@ -136,6 +138,8 @@ typedef struct {
     uint16_t next[LATCHES_CEILING];
     uint16_t reset[LATCHES_CEILING];
     uint16_t lamp[LAMPS_CEILING];
+    uint16_t bad[BADS_CEILING];
+    uint16_t constraint[CONSTRAINTS_CEILING];
     uint16_t operand[GATES_CEILING][2];
 } circuit;
 
@@ -228,7 +232,11 @@ static void set_random_lamps(circuit *c)
 static void make_widest_circuit(circuit *c)
 {
     bool chained = chance(35), apart = !chained && chance(50);
-    c->counts = (chudravik_counts){INPUTS_CEILING, LATCHES_CEILING, LAMPS_CEILING, 0};
+    c->counts = (chudravik_counts){.inputs = INPUTS_CEILING,
+                                   .latches = LATCHES_CEILING,
+                                   .lamps = LAMPS_CEILING,
+                                   .bads = BADS_CEILING,
+                                   .constraints = CONSTRAINTS_CEILING};
     while (c->counts.gates < GATES_CEILING) {
         size_t own = gate_literal(c, c->counts.gates);
         size_t left = chained ? own - 1 - below(2) : apart ? between(1128, own - 128) : between(1000, own - 1);
@@ -240,6 +248,10 @@ static void make_widest_circuit(circuit *c)
     }
     for (size_t i = 0; i < LAMPS_CEILING; i++)
         c->lamp[i] = (uint16_t)between(1000, top_literal(c));
+    for (size_t i = 0; i < BADS_CEILING; i++)
+        c->bad[i] = (uint16_t)between(1000, top_literal(c));
+    for (size_t i = 0; i < CONSTRAINTS_CEILING; i++)
+        c->constraint[i] = (uint16_t)between(1000, top_literal(c));
 }
 
 static void make_random_circuit(circuit *c, chudravik_counts counts)
@@ -260,7 +272,7 @@ static size_t random_count(size_t most)
 
 static chudravik_counts random_counts(size_t inputs, size_t latches, size_t lamps, size_t gates)
 {
-    chudravik_counts counts;
+    chudravik_counts counts = {0};
     counts.inputs = random_count(inputs);
     counts.latches = random_count(latches);
     counts.lamps = random_count(lamps);
@@ -272,7 +284,7 @@ static chudravik_counts random_size(void)
 {
     size_t roll = below(1000);
     if (roll < 3)
-        return (chudravik_counts){INPUTS_CEILING, LATCHES_CEILING, LAMPS_CEILING, GATES_CEILING};
+        return (chudravik_counts){INPUTS_CEILING, LATCHES_CEILING, LAMPS_CEILING, GATES_CEILING, 0, 0};
     if (roll < 24)
         return random_counts(INPUTS_CEILING, LATCHES_CEILING, LAMPS_CEILING, GATES_CEILING);
     if (roll < 100)
@@ -445,21 +457,97 @@ static void make_clockwork(circuit *c)
     set_random_lamps(c);
 }
 
+/* ---- bad states and constraints ---- */
+
+/* A literal's value: -1, 0 and 1 for 0, X and 1. */
+static int value_of(const signed char *value, size_t literal)
+{
+    return literal % 2 ? -value[literal / 2] : value[literal / 2];
+}
+
+/* Of each variable in the start, all switches X. */
+static void set_start_values(const circuit *c, signed char *value)
+{
+    size_t first = 1 + c->counts.inputs;
+    memset(value, 0, 1 + variables(c));
+    value[0] = -1;
+    for (size_t i = 0; i < c->counts.latches; i++)
+        value[first + i] = (signed char)(c->reset[i] == 0 ? -1 : c->reset[i] == 1);
+    for (size_t i = 0; i < c->counts.gates; i++) {
+        int left = value_of(value, c->operand[i][0]), right = value_of(value, c->operand[i][1]);
+        value[first + c->counts.latches + i] = (signed char)(left < right ? left : right);
+    }
+}
+
+/* "Assume the two switches are never both on", or a literal that mostly is not 0 at the start, so that a run goes on and may
+ * end later. */
+static void add_constraint(circuit *c, unsigned blocked_percent)
+{
+    static signed char value[4096];
+    size_t literal;
+    if (c->counts.constraints == CONSTRAINTS_CEILING)
+        return;
+    if (c->counts.inputs >= 2 && chance(15))
+        literal = add_gate(c, switch_literal(0), switch_literal(1)) ^ 1;
+    else if (c->counts.latches > 0 && chance(50))
+        literal = latch_literal(c, below(c->counts.latches)) ^ below(2);
+    else
+        literal = literal_below(top_literal(c) + 1);
+    set_start_values(c, value);
+    if (value_of(value, literal) < 0 && !chance(blocked_percent))
+        literal ^= 1;
+    c->constraint[c->counts.constraints++] = (uint16_t)literal;
+}
+
+/* One constraint, and it is 0 in the start: a latch that does not start so, or the constant. */
+static void block_start(circuit *c)
+{
+    size_t latch = below(c->counts.latches);
+    bool known = c->counts.latches > 0 && c->reset[latch] != NO_START;
+    c->counts.constraints = 1;
+    c->constraint[0] = (uint16_t)(known ? latch_literal(c, latch) + c->reset[latch] : 0);
+}
+
+static void set_random_bads(circuit *c)
+{
+    for (size_t i = 0; i < c->counts.bads; i++)
+        c->bad[i] = literal_below(top_literal(c) + 1);
+}
+
+/* Half of the circuits have neither, as pupils draw them. */
+static void add_assumptions(circuit *c)
+{
+    if (chance(50))
+        return;
+    for (size_t count = chance(60) ? chance(4) ? CONSTRAINTS_CEILING : between(1, 3) : 0; count > 0; count--)
+        add_constraint(c, 8);
+    c->counts.bads = chance(60) ? chance(4) ? BADS_CEILING : between(1, 9) : 0;
+    set_random_bads(c);
+}
+
 static void make_circuit(circuit *c, unsigned clockwork_percent)
 {
     if (chance(clockwork_percent))
         make_clockwork(c);
-    else if (chance(2))
+    else if (chance(2)) {
         make_widest_circuit(c);
-    else
+        return;
+    } else
         make_random_circuit(c, random_size());
+    add_assumptions(c);
 }
 
 /* ---- tables and counts ---- */
 
 static size_t words_of(chudravik_counts counts)
 {
-    return 2 * counts.latches + counts.lamps + 2 * counts.gates;
+    return 2 * counts.latches + counts.lamps + counts.bads + counts.constraints + 2 * counts.gates;
+}
+
+/* Lamps, and behind them bad states: what has a verdict. */
+static size_t watched(chudravik_counts counts)
+{
+    return counts.lamps + counts.bads;
 }
 
 static void lay_words(const circuit *c, uint16_t *word)
@@ -469,7 +557,9 @@ static void lay_words(const circuit *c, uint16_t *word)
         *word++ = c->reset[i];
     }
     memcpy(word, c->lamp, c->counts.lamps * sizeof *word);
-    memcpy(word + c->counts.lamps, c->operand, 2 * c->counts.gates * sizeof *word);
+    memcpy(word += c->counts.lamps, c->bad, c->counts.bads * sizeof *word);
+    memcpy(word += c->counts.bads, c->constraint, c->counts.constraints * sizeof *word);
+    memcpy(word + c->counts.constraints, c->operand, 2 * c->counts.gates * sizeof *word);
 }
 
 /* Percent of chance that any one part of the call in hand is damaged. Most calls have none, some nearly all, so that
@@ -531,6 +621,14 @@ static void damage_lamp(circuit *c, size_t i)
     c->lamp[i] = edge_literal(c, 2);
 }
 
+static void damage_bad_or_constraint(circuit *c)
+{
+    if (c->counts.bads > 0 && (c->counts.constraints == 0 || chance(50)))
+        c->bad[below(c->counts.bads)] = edge_literal(c, 2);
+    else if (c->counts.constraints > 0)
+        c->constraint[below(c->counts.constraints)] = edge_literal(c, 2);
+}
+
 static void damage_gate(circuit *c, size_t i)
 {
     size_t parts = between(1, 3);
@@ -542,13 +640,15 @@ static void damage_gate(circuit *c, size_t i)
 /* Words of one line to an edge, so that the circuit breaks 6, 7 or 8, or two of them, or only just none. */
 static void damage_circuit(circuit *c)
 {
-    size_t roll = below(5);
+    size_t roll = below(6);
     if (roll < 2 && c->counts.latches > 0)
         damage_latch(c, below(c->counts.latches));
     else if (roll < 4 && c->counts.gates > 0)
         damage_gate(c, below(c->counts.gates));
-    else if (c->counts.lamps > 0)
+    else if (roll < 5 && c->counts.lamps > 0)
         damage_lamp(c, below(c->counts.lamps));
+    else
+        damage_bad_or_constraint(c);
 }
 
 static size_t table_length_for(const circuit *c)
@@ -579,7 +679,7 @@ static size_t edge_count(size_t count, size_t ceiling)
 static void wrap_counts(chudravik_counts *counts)
 {
     const size_t half = (size_t)1 << 63;
-    switch (below(4)) {
+    switch (below(6)) {
     case 0:
         counts->inputs = 0 - counts->latches - counts->gates + below(3);
         break;
@@ -590,8 +690,14 @@ static void wrap_counts(chudravik_counts *counts)
         counts->latches += half;
         counts->gates += chance(50) ? half : 0;
         break;
-    default:
+    case 3:
         counts->lamps = 0 - 2 * counts->latches - 2 * counts->gates + below(3);
+        break;
+    case 4:
+        counts->bads = 0 - counts->lamps + below(3);
+        break;
+    default:
+        counts->constraints = 0 - counts->lamps - counts->bads - 2 * counts->latches - 2 * counts->gates + below(3);
     }
 }
 
@@ -600,7 +706,7 @@ static chudravik_counts handed_counts(const circuit *c)
     chudravik_counts counts = c->counts;
     if (!troubled())
         return counts;
-    switch (below(5)) {
+    switch (below(7)) {
     case 0:
         counts.inputs = edge_count(counts.inputs, INPUTS_CEILING);
         break;
@@ -612,6 +718,12 @@ static chudravik_counts handed_counts(const circuit *c)
         break;
     case 3:
         counts.gates = edge_count(counts.gates, GATES_CEILING);
+        break;
+    case 4:
+        counts.bads = edge_count(counts.bads, BADS_CEILING);
+        break;
+    case 5:
+        counts.constraints = edge_count(counts.constraints, CONSTRAINTS_CEILING);
         break;
     default:
         wrap_counts(&counts);
@@ -652,14 +764,32 @@ static void append_number(text *t, size_t number, char behind)
     append(t, digits + first, sizeof digits - first);
 }
 
-static void append_first_line(text *t, size_t m, chudravik_counts counts)
+/* M I L O A B C J F. */
+enum { FEWEST_NUMBERS = 5, MOST_NUMBERS = 9 };
+
+/* The numbers up to the last one that is not 0, at least five, and some of the noughts behind them. */
+static void append_numbers(text *t, const size_t *number, size_t noughts)
 {
+    size_t count = MOST_NUMBERS;
+    while (count > FEWEST_NUMBERS && number[count - 1] == 0)
+        count--;
+    count = least_of(count + noughts, MOST_NUMBERS);
     append(t, "aag ", 4);
-    append_number(t, m, ' ');
-    append_number(t, counts.inputs, ' ');
-    append_number(t, counts.latches, ' ');
-    append_number(t, counts.lamps, ' ');
-    append_number(t, counts.gates, '\n');
+    for (size_t i = 0; i < count; i++)
+        append_number(t, number[i], i + 1 < count ? ' ' : '\n');
+}
+
+static void append_first_line(text *t, size_t m, chudravik_counts counts, size_t noughts)
+{
+    const size_t number[MOST_NUMBERS] = {m, counts.inputs, counts.latches, counts.lamps, counts.gates, counts.bads,
+                                         counts.constraints};
+    append_numbers(t, number, noughts);
+}
+
+/* Noughts of a first line that is not written by the library. */
+static size_t some_noughts(void)
+{
+    return chance(70) ? 0 : between(1, 4);
 }
 
 static void append_latch(text *t, const circuit *c, size_t i, bool reset_shown)
@@ -670,14 +800,24 @@ static void append_latch(text *t, const circuit *c, size_t i, bool reset_shown)
         append_number(t, c->reset[i] == NO_START ? latch_literal(c, i) : c->reset[i], '\n');
 }
 
+/* The lines of one literal. */
+static void append_shown(text *t, const circuit *c)
+{
+    for (size_t i = 0; i < c->counts.lamps; i++)
+        append_number(t, c->lamp[i], '\n');
+    for (size_t i = 0; i < c->counts.bads; i++)
+        append_number(t, c->bad[i], '\n');
+    for (size_t i = 0; i < c->counts.constraints; i++)
+        append_number(t, c->constraint[i], '\n');
+}
+
 static void append_body(text *t, const circuit *c, unsigned zero_resets_percent)
 {
     for (size_t i = 0; i < c->counts.inputs; i++)
         append_number(t, switch_literal(i), '\n');
     for (size_t i = 0; i < c->counts.latches; i++)
         append_latch(t, c, i, c->reset[i] != 0 || chance(zero_resets_percent));
-    for (size_t i = 0; i < c->counts.lamps; i++)
-        append_number(t, c->lamp[i], '\n');
+    append_shown(t, c);
     for (size_t i = 0; i < c->counts.gates; i++) {
         append_number(t, gate_literal(c, i), ' ');
         append_number(t, c->operand[i][0], ' ');
@@ -685,9 +825,9 @@ static void append_body(text *t, const circuit *c, unsigned zero_resets_percent)
     }
 }
 
-static void append_circuit(text *t, const circuit *c, unsigned zero_resets_percent)
+static void append_circuit(text *t, const circuit *c, unsigned zero_resets_percent, size_t noughts)
 {
-    append_first_line(t, variables(c), c->counts);
+    append_first_line(t, variables(c), c->counts, noughts);
     append_body(t, c, zero_resets_percent);
 }
 
@@ -736,9 +876,9 @@ static void append_edge_gate(text *t, size_t own)
 }
 
 /* One gate, where there is such a number, at its edges. */
-static void append_binary(text *t, const circuit *c, unsigned zero_resets_percent, size_t edge)
+static void append_binary(text *t, const circuit *c, unsigned zero_resets_percent, size_t noughts, size_t edge)
 {
-    append_first_line(t, variables(c), c->counts);
+    append_first_line(t, variables(c), c->counts, noughts);
     t->byte[t->count == 0 ? 0 : 1] = 'i';
     for (size_t i = 0; i < c->counts.latches; i++) {
         bool reset_shown = c->reset[i] != 0 || chance(zero_resets_percent);
@@ -746,8 +886,7 @@ static void append_binary(text *t, const circuit *c, unsigned zero_resets_percen
         if (reset_shown)
             append_number(t, c->reset[i] == NO_START ? latch_literal(c, i) : c->reset[i], '\n');
     }
-    for (size_t i = 0; i < c->counts.lamps; i++)
-        append_number(t, c->lamp[i], '\n');
+    append_shown(t, c);
     for (size_t i = 0; i < c->counts.gates; i++) {
         size_t left = c->operand[i][0], right = c->operand[i][1], larger = left > right ? left : right;
         if (i == edge) {
@@ -845,18 +984,20 @@ static void number_to_edge(text *t, const circuit *c)
 /* The first line anew, with one of its numbers at an edge; M goes along with it, or does not. */
 static void damage_first_line(text *t, const circuit *c)
 {
-    const size_t ceiling[] = {INPUTS_CEILING, LATCHES_CEILING, LAMPS_CEILING, GATES_CEILING};
-    chudravik_counts counts = c->counts;
-    size_t *const count[] = {&counts.inputs, &counts.latches, &counts.lamps, &counts.gates};
-    size_t which = below(4), *changed = count[which];
-    *changed = ONE_OF(0, *changed + 1, *changed - (*changed > 0), ceiling[which], ceiling[which] + 1, 4095, 4096, 9999,
-                      65536, 99999, 100000, *changed + 65536);
-    size_t m = counts.inputs + counts.latches + counts.gates;
-    if (chance(40))
-        m = ONE_OF(0, variables(c), m + 1, m + 65536, 4096, 99999);
+    static const size_t ceiling[MOST_NUMBERS] = {
+        4095, INPUTS_CEILING, LATCHES_CEILING, LAMPS_CEILING, GATES_CEILING, BADS_CEILING, CONSTRAINTS_CEILING, 0, 0};
+    const chudravik_counts *counts = &c->counts;
+    size_t number[MOST_NUMBERS] = {variables(c), counts->inputs, counts->latches, counts->lamps, counts->gates,
+                                   counts->bads, counts->constraints};
+    size_t which = chance(45) ? between(1, FEWEST_NUMBERS - 1) : between(FEWEST_NUMBERS, MOST_NUMBERS - 1), was = number[which];
+    number[which] = ONE_OF(0, was + 1, was - (was > 0), ceiling[which], ceiling[which] + 1, ceiling[which] + 1, 4095, 4096,
+                           9999, 65536, 99999, 100000, was + 65536);
+    number[0] = number[1] + number[2] + number[4];
+    if (chance(which < FEWEST_NUMBERS ? 40 : 10))
+        number[0] = ONE_OF(0, variables(c), number[0] + 1, number[0] + 65536, 4096, 99999);
     static text first;
     first.count = 0;
-    append_first_line(&first, m, counts);
+    append_numbers(&first, number, some_noughts());
     splice(t, 0, line_behind(t, 0), first.byte, first.count);
 }
 
@@ -1002,7 +1143,8 @@ static void make_text(text *t, circuit *c)
     }
     for (size_t times = chance(20) ? between(1, 3) : 0; times > 0; times--)
         damage_circuit(c);
-    append_circuit(t, c, (unsigned)ONE_OF(0, 30, 100));
+    unsigned zero_resets_percent = (unsigned)ONE_OF(0, 30, 100);
+    append_circuit(t, c, zero_resets_percent, some_noughts());
     if (chance(15))
         append_comment(t, below(40));
     else if (chance(6))
@@ -1027,7 +1169,9 @@ static void make_binary(text *t, circuit *c)
     }
     if (chance(15))
         damage_circuit(c);
-    append_binary(t, c, (unsigned)ONE_OF(0, 30, 100), chance(25) ? below(c->counts.gates) : SIZE_MAX);
+    unsigned zero_resets_percent = (unsigned)ONE_OF(0, 30, 100);
+    size_t noughts = some_noughts();
+    append_binary(t, c, zero_resets_percent, noughts, chance(25) ? below(c->counts.gates) : SIZE_MAX);
     if (chance(15))
         append_comment(t, below(40));
     else if (chance(6))
@@ -1226,6 +1370,45 @@ enum sight {
     OUTSIDE_OPERAND,
     OUTSIDE_TWICE,
     OUTSIDE_INVERTED,
+    OUTSIDE_BADS,
+    OUTSIDE_CONSTRAINTS,
+    OUTSIDE_BADS_ALONE,
+    FIVE_NUMBERS,
+    SIX_NUMBERS,
+    SEVEN_NUMBERS,
+    EIGHT_NUMBERS,
+    NINE_NUMBERS,
+    MANY_BADS,
+    MANY_CONSTRAINTS,
+    SOME_JUSTICE,
+    SOME_FAIRNESS,
+    WRITTEN_SIX,
+    WRITTEN_SEVEN,
+    WRITTEN_NO_BADS,
+    BINARY_WITH_BOTH,
+    ANY_WITH_BOTH,
+    ANY_UNDEFINED,
+    ENDED_AT_ONCE,
+    ENDED_AFTER_ONE,
+    ENDED_LATER,
+    ENDED_FULL,
+    ENDED_AT_WIDENING,
+    CLOSED_UNDER_CONSTRAINTS,
+    CHAINED_WITHOUT_LAMPS,
+    CONSTRAINTS_ALONE,
+    JUDGED_ENDED,
+    JUDGED_NONE,
+    JUDGED_FREE_START,
+    JUDGED_NEEDLESS,
+    NO_CHAIN_ENDED,
+    NO_CHAIN_NONE,
+    BAD_NEVER,
+    BAD_ALWAYS,
+    COVER_NONE,
+    COVER_NONE_REFUSED,
+    COVER_NEEDLESS,
+    COVER_BAD_NEVER,
+    WHY_NO_BAD,
     SIGHTS
 };
 
@@ -1254,7 +1437,7 @@ static const char *const sight_names[SIGHTS] = {
     "cubes refused with 14 for a mark of 11 alone",
     "cubes accepted with other marks, alike",
     "accepted calls with every count at its ceiling",
-    "texts of 58,415 bytes written",
+    "texts of 59,061 bytes written",
     "ticks without X",
     "ticks with X",
     "texts written and read back alike",
@@ -1272,7 +1455,7 @@ static const char *const sight_names[SIGHTS] = {
     "lamps explained that are lit",
     "lamps explained that are dark",
     "tables written in the binary form and read back with their operands ordered",
-    "binary texts of 18,530 bytes written",
+    "binary texts of 19,176 bytes written",
     "merges of a record with itself",
     "merges that leave nothing known of what both know",
     "merges of 512 fields",
@@ -1293,6 +1476,45 @@ static const char *const sight_names[SIGHTS] = {
     "boards refused with 25 for a constant operand",
     "boards refused with 25 for an operand twice",
     "boards refused with 25 for a variable and its inverse",
+    "boards refused with 25 for a bad state",
+    "boards refused with 25 for a constraint",
+    "boards refused with 25 for a bad state where there is no lamp",
+    "texts read with five numbers in their first line",
+    "texts read with six numbers in their first line",
+    "texts read with seven numbers in their first line",
+    "texts read with eight numbers in their first line",
+    "texts read with nine numbers in their first line",
+    "texts refused with 3 for B alone",
+    "texts refused with 3 for C alone",
+    "texts refused with 3 for J alone",
+    "texts refused with 3 for F alone",
+    "texts written with B and without C",
+    "texts written with B and C",
+    "texts written with a B that is 0",
+    "binary texts read with bad states and constraints",
+    "texts in any order read with bad states and constraints",
+    "texts in any order refused with 21 for a bad state or a constraint",
+    "chains that ended with no cube",
+    "chains that ended after one cube",
+    "chains that ended after three cubes or more",
+    "chains that ended with no room left",
+    "chains that ended where a cube was due for widening",
+    "chains closed though there are constraints",
+    "chains without a lamp, for bad states",
+    "boards refused with 16 that have constraints",
+    "ended chains judged",
+    "chains of no cube judged",
+    "chains judged that do not begin with the resets",
+    "chains judged that would be none without their constraints",
+    "chains refused with 19 for j = n",
+    "chains refused with 19 for n = 0",
+    "chains judged with a bad state that never is",
+    "chains judged with a bad state that always is",
+    "covers of no cube accepted",
+    "covers of no cube refused with 17 though there are constraints",
+    "covers accepted that would be none without their constraints",
+    "covers accepted with a bad state that never is",
+    "bad states' numbers refused with 23",
 };
 
 static uint64_t seen[SIGHTS];
@@ -1306,7 +1528,8 @@ static void see(enum sight sight, bool it_is)
 static void see_size(uint32_t number, chudravik_counts counts)
 {
     see(LARGEST_CIRCUIT, number == 0 && counts.inputs == INPUTS_CEILING && counts.latches == LATCHES_CEILING &&
-                             counts.lamps == LAMPS_CEILING && counts.gates == GATES_CEILING);
+                             counts.lamps == LAMPS_CEILING && counts.gates == GATES_CEILING &&
+                             counts.bads == BADS_CEILING && counts.constraints == CONSTRAINTS_CEILING);
 }
 
 /* ---- the calls ---- */
@@ -1341,7 +1564,7 @@ static void must_write_and_read_alike(chudravik_counts counts, const uint16_t *t
 
 static void order_operands(chudravik_counts counts, const uint16_t *table, uint16_t *ordered)
 {
-    uint16_t *gate = ordered + 2 * counts.latches + counts.lamps;
+    uint16_t *gate = ordered + words_of(counts) - 2 * counts.gates;
     memcpy(ordered, table, words_of(counts) * sizeof *ordered);
     for (size_t i = 0; i < counts.gates; i++, gate += 2)
         if (gate[0] < gate[1]) {
@@ -1351,9 +1574,22 @@ static void order_operands(chudravik_counts counts, const uint16_t *table, uint1
         }
 }
 
-/* Some state under some switches gives the same in both tables. */
-static void must_behave_alike(chudravik_counts counts, const uint16_t *table, const uint16_t *other)
+/* Bad states and constraints as lamps, so that a tick shows them too, where there are no more of all than lamps may be: the
+ * table is the same. */
+static chudravik_counts all_as_lamps(chudravik_counts counts)
 {
+    size_t all = counts.lamps + counts.bads + counts.constraints;
+    if (all <= LAMPS_CEILING) {
+        counts.lamps = all;
+        counts.bads = counts.constraints = 0;
+    }
+    return counts;
+}
+
+/* Some state under some switches gives the same in both tables. */
+static void must_behave_alike(chudravik_counts true_counts, const uint16_t *table, const uint16_t *other)
+{
+    chudravik_counts counts = all_as_lamps(true_counts);
     uint8_t state[LATCHES_CEILING] = {0}, switches[INPUTS_CEILING] = {0}, next[2][LATCHES_CEILING], lamps[2][LAMPS_CEILING];
     for (size_t i = 0; i < counts.latches; i++)
         set_pair(state, i, below(3));
@@ -1393,6 +1629,45 @@ static void must_cross(chudravik_counts counts, const uint16_t *table)
     see(BINARY_BACK, true);
 }
 
+/* The numbers of a text's first line, as far as they are some. */
+static size_t first_numbers(const text *t, size_t *number)
+{
+    size_t at = 3, count = 0;
+    while (count < MOST_NUMBERS && t->byte[at] == ' ' && is_digit(t, at + 1)) {
+        number[count++] = number_from(t, at + 1);
+        at += 1 + digits_from(t, at + 1);
+    }
+    return count;
+}
+
+/* Of a text that is refused with 3: which of the last four numbers alone is the reason. */
+static void see_refused_counts(const text *t)
+{
+    size_t n[MOST_NUMBERS] = {0};
+    first_numbers(t, n);
+    bool fits = n[1] <= INPUTS_CEILING && n[2] <= LATCHES_CEILING && n[3] <= LAMPS_CEILING && n[4] <= GATES_CEILING &&
+                n[0] == n[1] + n[2] + n[4];
+    bool b = n[5] > BADS_CEILING, many = n[6] > CONSTRAINTS_CEILING, j = n[7] != 0, f = n[8] != 0;
+    see(MANY_BADS, fits && b && !many && !j && !f);
+    see(MANY_CONSTRAINTS, fits && !b && many && !j && !f);
+    see(SOME_JUSTICE, fits && !b && !many && j && !f);
+    see(SOME_FAIRNESS, fits && !b && !many && !j && f);
+}
+
+static void see_first_line(uint32_t number, const text *t)
+{
+    size_t n[MOST_NUMBERS];
+    if (number == 0)
+        see((enum sight)(FIVE_NUMBERS + first_numbers(t, n) - FEWEST_NUMBERS), true);
+    if (number == 3)
+        see_refused_counts(t);
+}
+
+static bool has_both(uint32_t number, chudravik_counts counts)
+{
+    return number == 0 && counts.bads > 0 && counts.constraints > 0;
+}
+
 static void try_read(circuit *c)
 {
     static text t;
@@ -1404,6 +1679,7 @@ static void try_read(circuit *c)
     make_call();
     note(READ, hand.library.number, TEN_TABLE);
     see_size(hand.library.number, hand.library.counts);
+    see_first_line(hand.library.number, &t);
     see(OFFICE_READ, hand.library.number == 0 && t.byte[line_behind(&t, 0) - 2] == '\r');
     if (hand.library.number != 0)
         return;
@@ -1422,6 +1698,7 @@ static void try_read_binary(circuit *c)
     make_call();
     note(READ_BINARY, hand.library.number, TEN_TABLE);
     see_size(hand.library.number, hand.library.counts);
+    see(BINARY_WITH_BOTH, has_both(hand.library.number, hand.library.counts));
     if (hand.library.number == 0)
         must_cross(hand.library.counts, library_table(&hand));
 }
@@ -1434,17 +1711,26 @@ static void turn_back(circuit *c)
         c->operand[i][below(2)] = (uint16_t)between(gate_literal(c, i), top_literal(c));
 }
 
-/* M above the count of variables, so that some are not defined, and a literal of one of those. */
-static void leave_gap(text *t, circuit *c)
+/* M above the count of variables, so that some are not defined, and a literal of one of those; answers whether it is a bad
+ * state's or a constraint's. */
+static bool leave_gap(text *t, circuit *c)
 {
+    bool behind_lamps = false;
     static text first;
     size_t gap = between(1, 5), literal = top_literal(c) + between(1, 2 * gap);
-    if (c->counts.lamps > 0)
+    if (c->counts.bads > 0 && chance(40)) {
+        c->bad[below(c->counts.bads)] = (uint16_t)literal;
+        behind_lamps = true;
+    } else if (c->counts.constraints > 0 && chance(60)) {
+        c->constraint[below(c->counts.constraints)] = (uint16_t)literal;
+        behind_lamps = true;
+    } else if (c->counts.lamps > 0)
         c->lamp[below(c->counts.lamps)] = (uint16_t)literal;
     t->count = first.count = 0;
-    append_circuit(t, c, 0);
-    append_first_line(&first, variables(c) + gap, c->counts);
+    append_circuit(t, c, 0, 0);
+    append_first_line(&first, variables(c) + gap, c->counts, some_noughts());
     splice(t, 0, line_behind(t, 0), first.byte, first.count);
+    return behind_lamps;
 }
 
 /* Texts that are for read, with a loop or a gap now and then; drawings.c has the other orders. */
@@ -1453,10 +1739,11 @@ static void try_read_any(circuit *c)
     static text t;
     make_circuit(c, 15);
     twice_begin(&hand, READ_ANY, c->counts, (numbers){0});
+    bool behind_lamps = false;
     if (chance(8))
         turn_back(c);
-    if (chance(8))
-        leave_gap(&t, c);
+    if (chance(14))
+        behind_lamps = leave_gap(&t, c);
     else
         make_text(&t, c);
     lend_given(TEXT, t.byte, t.count);
@@ -1465,13 +1752,15 @@ static void try_read_any(circuit *c)
     make_call();
     note(READ_ANY, hand.library.number, table_words(&hand) < words_of(c->counts) ? TEN_TABLE : TEN_RESULT);
     see_size(hand.library.number, hand.library.counts);
+    see(ANY_WITH_BOTH, has_both(hand.library.number, hand.library.counts));
+    see(ANY_UNDEFINED, hand.library.number == 21 && behind_lamps);
 }
 
 static size_t text_length_for(const circuit *c)
 {
     static text t;
     t.count = 0;
-    append_circuit(&t, c, 0);
+    append_circuit(&t, c, 0, 0);
     return chance(4) ? WRITTEN_CEILING - below(2) : length_for(t.count);
 }
 
@@ -1486,6 +1775,9 @@ static void try_write(circuit *c)
     note(WRITE, hand.library.number, table_words(&hand) < words_of(counts) ? TEN_TABLE : TEN_RESULT);
     see_size(hand.library.number, counts);
     see(LONGEST_WRITTEN, hand.library.bytes == WRITTEN_CEILING);
+    see(WRITTEN_SIX, hand.library.number == 0 && counts.bads > 0 && counts.constraints == 0);
+    see(WRITTEN_SEVEN, has_both(hand.library.number, counts));
+    see(WRITTEN_NO_BADS, hand.library.number == 0 && counts.bads == 0 && counts.constraints > 0);
     if (hand.library.number == 0)
         must_read_as(of_library(&hand, TEXT), hand.library.bytes, counts, library_table(&hand));
 }
@@ -1494,7 +1786,7 @@ static size_t binary_length_for(const circuit *c)
 {
     static text t;
     t.count = 0;
-    append_binary(&t, c, 0, SIZE_MAX);
+    append_binary(&t, c, 0, 0, SIZE_MAX);
     return chance(4) ? BINARY_CEILING - below(2) : length_for(t.count);
 }
 
@@ -1599,16 +1891,36 @@ static bool has_pair(const uint8_t *record, size_t fields, unsigned pair)
     return false;
 }
 
+/* Of a chain that has ended; none can without constraints, nor behind cube w: from there on each cube contains the one before,
+ * and a constraint that is 0 in the larger is 0 in the smaller. */
+static void see_end(chudravik_counts counts, size_t w, const answer *chain)
+{
+    if (counts.constraints == 0)
+        fail("a chain without constraints has ended");
+    if (w != 0 && chain->cubes > w)
+        fail("a chain has ended behind cube w");
+    see(ENDED_AT_ONCE, chain->cubes == 0);
+    see(ENDED_AFTER_ONE, chain->cubes == 1);
+    see(ENDED_LATER, chain->cubes >= 3);
+    see(ENDED_FULL, chain->cubes == bytes_of(CUBES) / cube_bytes(counts.latches));
+    see(ENDED_AT_WIDENING, w != 0 && chain->cubes == w);
+}
+
 static void see_chain(chudravik_counts counts, size_t w, const answer *chain)
 {
-    bool closed = chain->number == 0;
+    bool closed = chain->number == 0 && chain->back < chain->cubes;
+    see(CONSTRAINTS_ALONE, chain->number == 16 && counts.constraints > 0);
+    see(CHAINED_WITHOUT_LAMPS, chain->number == 0 && counts.lamps == 0);
     see(LONG_CLOSED, closed && chain->cubes >= 100);
     see(LONG_NO_ROOM, chain->number == 15 && chain->cubes >= 100);
     see(NO_ROOM_BY_MARKS, chain->number == 15 && bytes_of(CUBES) / record_bytes(counts.latches) > chain->cubes);
     if (chain->cubes > most_cubes)
         most_cubes = chain->cubes;
+    if (chain->number == 0 && !closed)
+        see_end(counts, w, chain);
     if (!closed)
         return;
+    see(CLOSED_UNDER_CONSTRAINTS, counts.constraints > 0);
     see(CLOSED_FULL, chain->cubes == bytes_of(CUBES) / cube_bytes(counts.latches));
     see(CLOSED_LATER, chain->back > 0);
     see(CLOSED_WIDENED, w != 0 && chain->cubes > w);
@@ -1636,7 +1948,7 @@ static void must_close_in_time(chudravik_counts counts, size_t w, const answer *
         fail("with w %zu a chain of %zu latches did not close within w x L + 1 cubes", w, counts.latches);
 }
 
-/* What the library chained it judges, with the table that made it and with other lamps. */
+/* What the library chained it judges, with the table that made it and with other lamps and bad states. */
 static void must_be_judged(chudravik_counts counts, const answer *chain)
 {
     static uint16_t word[WORDS_CEILING];
@@ -1648,18 +1960,23 @@ static void must_be_judged(chudravik_counts counts, const answer *chain)
                               .number;
         if (number != 0)
             fail("what the library chained it refuses to judge, with %" PRIu32, number);
-        for (size_t i = 0; i < counts.lamps; i++)
+        for (size_t i = 0; i < watched(counts); i++)
             word[2 * counts.latches + i] = (uint16_t)below(2 * (1 + counts.inputs + counts.latches + counts.gates));
     }
 }
 
-/* A lamp where there is none, save in a few: those meet 16, whatever else is wrong, and the others come to their work. */
+/* A lamp or a bad state where there is neither, save in a few: those meet 16, whatever else is wrong, and the others come to
+ * their work. */
 static void mostly_give_lamp(circuit *c)
 {
-    if (c->counts.lamps > 0 || chance(25))
+    if (watched(c->counts) > 0 || chance(c->counts.constraints > 0 ? 60 : 25))
         return;
-    c->counts.lamps = 1;
+    if (chance(50))
+        c->counts.bads = 1;
+    else
+        c->counts.lamps = 1;
     set_random_lamps(c);
+    set_random_bads(c);
 }
 
 static void try_chain(circuit *c)
@@ -1668,7 +1985,7 @@ static void try_chain(circuit *c)
     mostly_give_lamp(c);
     chudravik_counts counts = handed_counts(c);
     size_t latches = fields_for(counts.latches, c->counts.latches, LATCHES_CEILING);
-    size_t w = interval();
+    size_t w = c->counts.constraints > 0 && chance(25) ? between(1, 3) : interval();
     twice_begin(&hand, CHAIN, counts, (numbers){.w = w});
     lend_table(c);
     lend_noise(CUBES, cubes_length(c, w, cube_bytes(latches)));
@@ -1912,17 +2229,50 @@ static void must_not_compare_marks(chudravik_counts counts)
         fail("with other marks the library gives %" PRIu32, other.number);
     if (made->number != 0)
         return;
-    if (memcmp(verdict, of_library(&hand, VERDICT), record_bytes(counts.lamps)) != 0 ||
+    if (memcmp(verdict, of_library(&hand, VERDICT), record_bytes(watched(counts))) != 0 ||
         (hand.call == JUDGE && memcmp(settled, of_library(&hand, SETTLED), record_bytes(counts.latches)) != 0))
         fail("with other marks the library has other results");
     see(MARKS_TURNED, true);
 }
 
+/* The table in hand without its constraints. */
+static chudravik_counts leave_out_constraints(chudravik_counts counts, uint16_t *word)
+{
+    size_t front = 2 * counts.latches + watched(counts);
+    memcpy(word, library_table(&hand), front * sizeof *word);
+    memcpy(word + front, library_table(&hand) + front + counts.constraints, 2 * counts.gates * sizeof *word);
+    counts.constraints = 0;
+    return counts;
+}
+
+/* Whether it is the constraints alone that make the given cubes a cover. */
+static bool covers_by_constraints(chudravik_counts counts)
+{
+    static uint16_t word[WORDS_CEILING];
+    uint8_t verdict[LAMPS_CEILING];
+    chudravik_counts fewer = leave_out_constraints(counts, word);
+    return simulate_cover(fewer, word, WORDS_CEILING, of_library(&hand, CUBES), bytes_of(CUBES), hand.with.n, verdict,
+                          sizeof verdict)
+               .number != 0;
+}
+
+static bool has_pair_from(const uint8_t *record, size_t first, size_t fields, unsigned pair)
+{
+    for (size_t i = first; i < first + fields; i++)
+        if (pair_at(record, i) == pair)
+            return true;
+    return false;
+}
+
 static void see_cover(chudravik_counts counts, bool of_chain, const answer *made)
 {
     see(COVER_LEFT_LATER, made->number == 18 && made->cube > 0);
+    see(COVER_NONE_REFUSED, made->number == 17 && hand.with.n == 0 && counts.constraints > 0);
     if (made->number != 0)
         return;
+    see(COVER_NONE, hand.with.n == 0);
+    see(COVER_NEEDLESS, hand.with.n > 0 && counts.constraints > 0 && covers_by_constraints(counts));
+    see(COVER_BAD_NEVER, has_pair_from(of_library(&hand, VERDICT), counts.lamps, counts.bads, 1));
     see(of_chain ? COVER_OF_A_CHAIN : COVER_OF_OTHERS, true);
     see(COVER_LONG, hand.with.n >= 50);
     see(COVER_NEVER, has_pair(of_library(&hand, VERDICT), counts.lamps, 1));
@@ -1932,9 +2282,12 @@ static void try_cover(circuit *c)
 {
     static cover sent;
     make_circuit(c, 70);
+    if (chance(5))
+        block_start(c);
     chudravik_counts counts = handed_counts(c);
     size_t latches = fields_for(counts.latches, c->counts.latches, LATCHES_CEILING);
-    size_t lamps = fields_for(counts.lamps, c->counts.lamps, LAMPS_CEILING);
+    size_t lamps = fields_for(counts.lamps, c->counts.lamps, LAMPS_CEILING) +
+                   fields_for(counts.bads, c->counts.bads, BADS_CEILING);
     bool of_chain = make_cover(&sent, c, latches);
     twice_begin(&hand, COVER, counts, (numbers){.n = count_handed(&sent)});
     lend_table(c);
@@ -1951,8 +2304,20 @@ static void try_cover(circuit *c)
 
 /* Kinds of given chain: as it was made; with lamps, or gates and lamps, drawn behind it; with its round gone through once
  * more; with fields forgotten so that it still is a chain; and those that mostly are none: a field changed, cut short,
- * another j, another start, cubes of chance. */
-enum kind { OWN, WITH_LAMP, UNROLLED, BLURRED, FIELD_CHANGED, CUT_SHORT, OTHER_BACK, OTHER_START, BY_CHANCE, KINDS };
+ * another j, another start, a start in which a constraint is 0 so that it may be any, cubes of chance. */
+enum kind {
+    OWN,
+    WITH_LAMP,
+    UNROLLED,
+    BLURRED,
+    FIELD_CHANGED,
+    CUT_SHORT,
+    OTHER_BACK,
+    OTHER_START,
+    FREE_START,
+    BY_CHANCE,
+    KINDS
+};
 
 static void add_lamp(circuit *c)
 {
@@ -2002,7 +2367,8 @@ static void mend(cover *sent, const circuit *c, size_t j)
             if (simulate_tick(c->counts, word, WORDS_CEILING, state, sizeof state, switches, sizeof switches, next,
                               sizeof next, lamps, sizeof lamps) != 0)
                 return;
-            changed |= forget(cube_at(sent, k + 1 < sent->count ? k + 1 : j), next, sent->latches);
+            if (k + 1 < sent->count || j < sent->count) /* an ended chain goes nowhere */
+                changed |= forget(cube_at(sent, k + 1 < sent->count ? k + 1 : j), next, sent->latches);
         }
     }
 }
@@ -2010,7 +2376,7 @@ static void mend(cover *sent, const circuit *c, size_t j)
 static size_t blur(cover *sent, const circuit *c, size_t j)
 {
     size_t back = j > 0 ? j : unroll(sent, j);
-    if (back == 0 || sent->latches == 0 || sent->count > 100)
+    if (back == 0 || sent->latches == 0 || sent->count < 2 || sent->count > 100)
         return back;
     for (size_t times = between(1, 3); times > 0; times--)
         put_latch(cube_at(sent, between(1, sent->count - 1)), below(sent->latches), 0);
@@ -2025,6 +2391,18 @@ static void change_field(cover *sent, size_t k)
         put_latch(cube_at(sent, k), latch, (pair_at(cube_at(sent, k), 1 + latch) + (unsigned)between(1, 2)) % 3);
 }
 
+/* A chain of the circuit without its constraints, perhaps from its second cube on; then a constraint that is 0 in the start. */
+static size_t chain_from_anywhere(cover *sent, circuit *c)
+{
+    c->counts.constraints = 0;
+    size_t j = cover_by_chain(sent, c);
+    block_start(c);
+    if (j == 0 || sent->count < 2 || chance(30))
+        return j;
+    memmove(sent->byte, cube_at(sent, 1), --sent->count * sent->record);
+    return j - 1;
+}
+
 /* Makes the cubes and answers j. */
 static size_t make_chain(cover *sent, circuit *c, size_t latches, enum kind kind)
 {
@@ -2033,6 +2411,8 @@ static size_t make_chain(cover *sent, circuit *c, size_t latches, enum kind kind
         cover_by_chance(sent);
         return below(sent->count + 2);
     }
+    if (kind == FREE_START)
+        return chain_from_anywhere(sent, c);
     size_t j = cover_by_chain(sent, c);
     if (sent->count == 0)
         return 0;
@@ -2068,9 +2448,15 @@ static size_t back_handed(const cover *sent, size_t j)
                   SIZE_MAX, SIZE_MAX / sent->record + 1 + j, (size_t)1 << 63, draw());
 }
 
-/* The settled record is the merge of the cubes from j on, marks left off. */
+/* The settled record is the merge of the cubes from j on, marks left off; of an ended chain it is empty. */
 static void must_be_merged(chudravik_counts counts)
 {
+    if (hand.with.j == hand.with.n) {
+        if (hand.library.settled != 0 || has_pair(of_library(&hand, SETTLED), counts.latches, 1) ||
+            has_pair(of_library(&hand, SETTLED), counts.latches, 2))
+            fail("an ended chain has settled latches");
+        return;
+    }
     uint8_t merged[LATCHES_CEILING];
     size_t record = record_bytes(counts.latches), cube = cube_bytes(counts.latches);
     const uint8_t *cubes = of_library(&hand, CUBES);
@@ -2086,8 +2472,44 @@ static void must_be_merged(chudravik_counts counts)
         fail("the settled record is not the merge of the cubes from j on");
 }
 
+/* Whether it is the constraints alone that make the given cubes a chain. */
+static bool chains_by_constraints(chudravik_counts counts)
+{
+    static uint16_t word[WORDS_CEILING];
+    uint8_t verdict[LAMPS_CEILING], settled[LATCHES_CEILING];
+    chudravik_counts fewer = leave_out_constraints(counts, word);
+    return simulate_judge(fewer, word, WORDS_CEILING, of_library(&hand, CUBES), bytes_of(CUBES), hand.with.n, hand.with.j,
+                          verdict, sizeof verdict, settled, sizeof settled)
+               .number != 0;
+}
+
+static bool begins_with_resets(chudravik_counts counts)
+{
+    const uint16_t *word = library_table(&hand);
+    for (size_t i = 0; i < counts.latches; i++)
+        if (pair_at(of_library(&hand, CUBES), 1 + i) != (word[2 * i + 1] == NO_START ? 0u : 1u + word[2 * i + 1]))
+            return false;
+    return true;
+}
+
+static void see_judge_of_constraints(chudravik_counts counts, const answer *made)
+{
+    size_t n = hand.with.n, j = hand.with.j;
+    see(NO_CHAIN_ENDED, made->number == 19 && j == n && n > 0);
+    see(NO_CHAIN_NONE, made->number == 19 && n == 0);
+    if (made->number != 0)
+        return;
+    see(JUDGED_ENDED, j == n && n > 0);
+    see(JUDGED_NONE, n == 0);
+    see(JUDGED_FREE_START, n > 0 && !begins_with_resets(counts));
+    see(JUDGED_NEEDLESS, j < n && counts.constraints > 0 && chains_by_constraints(counts));
+    see(BAD_NEVER, has_pair_from(of_library(&hand, VERDICT), counts.lamps, counts.bads, 1));
+    see(BAD_ALWAYS, has_pair_from(of_library(&hand, VERDICT), counts.lamps, counts.bads, 2));
+}
+
 static void see_judge(chudravik_counts counts, enum kind kind, const answer *made)
 {
+    see_judge_of_constraints(counts, made);
     static const enum sight judged[KINDS] = {JUDGED_OWN, JUDGED_WITH_LAMP, JUDGED_UNROLLED, JUDGED_BLURRED};
     static const enum sight refused[KINDS] = {[FIELD_CHANGED] = NO_CHAIN_FIELD,
                                               [CUT_SHORT] = NO_CHAIN_SHORT,
@@ -2114,9 +2536,10 @@ static void try_judge(circuit *c)
     size_t latches = fields_for(counts.latches, c->counts.latches, LATCHES_CEILING);
     enum kind kind = (enum kind)below(KINDS);
     size_t j = make_chain(&sent, c, latches, kind);
-    if (kind == WITH_LAMP && counts.latches == c->counts.latches)
+    if ((kind == WITH_LAMP || kind == FREE_START) && counts.latches == c->counts.latches)
         counts = handed_counts(c);
-    size_t lamps = fields_for(counts.lamps, c->counts.lamps, LAMPS_CEILING);
+    size_t lamps = fields_for(counts.lamps, c->counts.lamps, LAMPS_CEILING) +
+                   fields_for(counts.bads, c->counts.bads, BADS_CEILING);
     size_t n = count_handed(&sent);
     twice_begin(&hand, JUDGE, counts, (numbers){.n = n, .j = back_handed(&sent, j)});
     lend_table(c);
@@ -2140,7 +2563,8 @@ static void make_deep_circuit(circuit *c)
 {
     size_t gates = chance(30) ? GATES_CEILING : between(1, 2000), kind = below(3);
     unsigned inverted_percent = (unsigned)ONE_OF(0, 50, 100);
-    c->counts = (chudravik_counts){below(3), between(1, 9), 0, 0};
+    c->counts = (chudravik_counts){.inputs = below(3)};
+    c->counts.latches = between(1, 9);
     size_t last = perhaps_inverted(chance(10) ? some_switch(c) : latch_literal(c, below(c->counts.latches)));
     while (c->counts.gates < gates) {
         size_t from = last ^ (chance(inverted_percent) ? 1 : 0);
@@ -2159,7 +2583,8 @@ static void make_deep_circuit(circuit *c)
 static void make_wide_circuit(circuit *c)
 {
     size_t last = 1;
-    c->counts = (chudravik_counts){below(3), between(10, 60), 1, 0};
+    c->counts = (chudravik_counts){.inputs = below(3), .lamps = 1};
+    c->counts.latches = between(10, 60);
     for (size_t i = 0; i < c->counts.latches; i++) {
         c->next[i] = (uint16_t)latch_literal(c, i);
         c->operand[i][0] = (uint16_t)last;
@@ -2269,6 +2694,7 @@ static void try_why(circuit *c)
     lend_noise(REASON, length_for(record_bytes(latches)));
     make_call();
     note(WHY, hand.library.number, hand.library.number == 10 ? ten_of_why(counts) : TEN_TABLE);
+    see(WHY_NO_BAD, hand.library.number == 23 && lamp < watched(counts));
     see_size(hand.library.number, counts);
     if (hand.library.number != 0)
         return;
@@ -2282,7 +2708,7 @@ enum { BOARD_INPUTS = 4, BOARD_LATCHES = 8, BOARD_LAMPS = 8, BOARD_GATES = 32, L
 
 /* How a board is outside the beginners' rules, in the order of the sights; a board of chance may be so in any way. */
 enum outside { MANY_INPUTS, MANY_LATCHES, MANY_LAMPS, MANY_GATES, NEXT_CONSTANT, LAMP_CONSTANT, OPERAND_CONSTANT, FED_TWICE,
-               FED_INVERTED, INSIDE, BY_ITS_SIZE };
+               FED_INVERTED, WITH_BADS, WITH_CONSTRAINTS, WITH_BADS_ALONE, INSIDE, BY_ITS_SIZE };
 
 static size_t board_count(size_t most, bool one_more)
 {
@@ -2328,6 +2754,21 @@ static void put_outside(circuit *c, enum outside outside)
     operand[side] = outside == OPERAND_CONSTANT ? (uint16_t)below(2) : operand[!side] ^ (outside == FED_INVERTED);
 }
 
+/* Literals that a lamp of the board may have too. */
+static void put_behind_lamps(circuit *c, enum outside outside)
+{
+    if (outside == WITH_BADS_ALONE)
+        c->counts.lamps = 0;
+    if (outside == WITH_BADS || outside == WITH_BADS_ALONE)
+        c->counts.bads = between(1, 2);
+    if (outside == WITH_CONSTRAINTS)
+        c->counts.constraints = between(1, 2);
+    for (size_t i = 0; i < c->counts.bads; i++)
+        c->bad[i] = (uint16_t)literal_up_to(variables(c));
+    for (size_t i = 0; i < c->counts.constraints; i++)
+        c->constraint[i] = (uint16_t)literal_up_to(variables(c));
+}
+
 static enum outside make_board(circuit *c)
 {
     enum outside outside = chance(55) ? INSIDE : (enum outside)below(INSIDE);
@@ -2355,6 +2796,7 @@ static enum outside make_board(circuit *c)
     for (size_t i = 0; i < c->counts.lamps; i++)
         c->lamp[i] = (uint16_t)literal_up_to(variables(c));
     put_outside(c, outside);
+    put_behind_lamps(c, outside);
     return outside;
 }
 
@@ -2585,6 +3027,12 @@ static void try_call(uint64_t number)
 /* Sights are rarer than numbers, and no seed should fail by its luck. */
 enum { CALLS_ENOUGH = 20000, TIMES_DUE = 20, SIGHTS_DUE = 5 };
 
+/* Those of bad states and constraints are due as often as numbers. */
+static uint64_t sights_due(size_t sight)
+{
+    return sight < OUTSIDE_BADS ? SIGHTS_DUE : TIMES_DUE;
+}
+
 static bool is_given(size_t outcome)
 {
     for (size_t call = 0; call < CALLS; call++)
@@ -2638,7 +3086,7 @@ static size_t count_rare(void)
                 rare++;
             }
     for (size_t sight = 0; sight < SIGHTS; sight++)
-        if (seen[sight] < SIGHTS_DUE) {
+        if (seen[sight] < sights_due(sight)) {
             fprintf(stderr, "differential: too seldom: %s\n", sight_names[sight]);
             rare++;
         }

@@ -18,14 +18,17 @@ typedef struct {
     chudravik_counts counts;
     size_t input[CHUDRAVIK_MOST_INPUTS];
     size_t latch[CHUDRAVIK_MOST_LATCHES], next[CHUDRAVIK_MOST_LATCHES], reset[CHUDRAVIK_MOST_LATCHES];
-    size_t lamp[CHUDRAVIK_MOST_LAMPS];
+    size_t lamp[CHUDRAVIK_MOST_LAMPS], bad[CHUDRAVIK_MOST_BADS], constraint[CHUDRAVIK_MOST_CONSTRAINTS];
     size_t gate[CHUDRAVIK_MOST_GATES], left[CHUDRAVIK_MOST_GATES], right[CHUDRAVIK_MOST_GATES];
 } drawing;
 
 /* 1 to 9 and 20 to 22 for a text; 0 where it is read, and then the drawing holds its lines. */
 uint32_t read_drawing(const uint8_t *text, size_t text_bytes, drawing *d);
 
-/* One tick of the text: lamps and next state, by position, from switches and state. */
-void tick_drawing(const drawing *d, const bool *switches, const bool *state, bool *next, bool *lamps);
+/* What a text shows at a tick: its lamps, then its bad states, then its constraints. */
+enum { MOST_SHOWN = CHUDRAVIK_MOST_LAMPS + CHUDRAVIK_MOST_BADS + CHUDRAVIK_MOST_CONSTRAINTS };
+
+/* One tick of the text: what it shows, and the next state, by position, from switches and state. */
+void tick_drawing(const drawing *d, const bool *switches, const bool *state, bool *next, bool *shown);
 
 #endif

@@ -62,10 +62,14 @@ static void write_drawing(const drawing *d, const char *ending, bool damaged)
 {
     text_bytes = 0;
     put(damaged && chance(3) ? "aig " : "aag ");
-    size_t first[5] = {d->most, d->counts.inputs, d->counts.latches, d->counts.lamps, d->counts.gates};
-    if (damaged && chance(6))
-        first[below(5)] = (size_t[]){0, 1, 65, 257, 513, 3328, 4095, 4096, 5000, 99999}[below(10)];
-    put_numbers(damaged && chance(2) ? 4 : 5, first, ending);
+    size_t first[10] = {d->most, d->counts.inputs, d->counts.latches, d->counts.lamps, d->counts.gates, d->counts.bads,
+                        d->counts.constraints};
+    size_t count = d->counts.constraints > 0 ? 7 : d->counts.bads > 0 ? 6 : 5;
+    if (chance(30))
+        count = between(count, 9);
+    if (damaged && chance(8))
+        first[below(9)] = (size_t[]){0, 1, 65, 257, 513, 3328, 4095, 4096, 5000, 99999}[below(10)];
+    put_numbers(damaged && chance(2) ? 4 : damaged && chance(1) ? 10 : damaged && chance(4) ? 9 : count, first, ending);
     for (size_t i = 0; i < d->counts.inputs; i++)
         put_numbers(damaged && chance(1) ? 2 : 1, (size_t[]){d->input[i], 2}, some_ending(ending, damaged));
     for (size_t i = 0; i < d->counts.latches; i++) {
@@ -77,6 +81,10 @@ static void write_drawing(const drawing *d, const char *ending, bool damaged)
     }
     for (size_t i = 0; i < d->counts.lamps; i++)
         put_numbers(1, &d->lamp[i], some_ending(ending, damaged));
+    for (size_t i = 0; i < d->counts.bads; i++)
+        put_numbers(damaged && chance(1) ? 2 : 1, (size_t[]){d->bad[i], 2}, some_ending(ending, damaged));
+    for (size_t i = 0; i < d->counts.constraints; i++)
+        put_numbers(damaged && chance(1) ? 2 : 1, (size_t[]){d->constraint[i], 2}, some_ending(ending, damaged));
     for (size_t i = 0; i < d->counts.gates; i++)
         put_numbers(damaged && chance(1) ? 2 : 3, (size_t[]){d->gate[i], d->left[i], d->right[i]},
                     some_ending(ending, damaged));
@@ -124,8 +132,11 @@ static void make_drawing(drawing *d)
 {
     static size_t place[CHUDRAVIK_MOST_GATES];
     bool large = chance(2);
-    chudravik_counts c = large ? (chudravik_counts){256, 512, 64, 3327 - below(2) * below(60)}
-                               : (chudravik_counts){below(8), below(8), below(5), below(chance(10) ? 300 : 50)};
+    bool assumed = chance(50);
+    chudravik_counts c = {.inputs = large ? 256 : below(8), .latches = large ? 512 : below(8), .lamps = large ? 64 : below(5)};
+    c.gates = large ? 3327 - below(2) * below(60) : below(chance(10) ? 300 : 50);
+    c.bads = !assumed ? 0 : large ? 64 : below(4);
+    c.constraints = !assumed ? 0 : large ? 64 : below(4);
     size_t lines = c.inputs + c.latches + c.gates;
     d->counts = c;
     d->most = lines + (chance(30) ? 0 : below(chance(50) ? 20 : CHUDRAVIK_MOST_VARIABLES + 1 - lines));
@@ -156,6 +167,10 @@ static void make_drawing(drawing *d)
     }
     for (size_t i = 0; i < c.lamps; i++)
         d->lamp[i] = lines == 0 ? below(2) : literal_among(lines);
+    for (size_t i = 0; i < c.bads; i++)
+        d->bad[i] = lines == 0 ? below(2) : literal_among(lines);
+    for (size_t i = 0; i < c.constraints; i++)
+        d->constraint[i] = lines == 0 ? below(2) : literal_among(lines);
 }
 
 /* ---- damage to a drawing ---- */
@@ -174,7 +189,7 @@ static size_t *some_own(drawing *d)
 
 static size_t *some_literal(drawing *d)
 {
-    size_t all = d->counts.latches + d->counts.lamps + 2 * d->counts.gates;
+    size_t all = d->counts.latches + d->counts.lamps + d->counts.bads + d->counts.constraints + 2 * d->counts.gates;
     if (all == 0)
         return NULL;
     size_t i = below(all);
@@ -184,6 +199,12 @@ static size_t *some_literal(drawing *d)
     if (i < d->counts.lamps)
         return &d->lamp[i];
     i -= d->counts.lamps;
+    if (i < d->counts.bads)
+        return &d->bad[i];
+    i -= d->counts.bads;
+    if (i < d->counts.constraints)
+        return &d->constraint[i];
+    i -= d->counts.constraints;
     return i % 2 == 0 ? &d->left[i / 2] : &d->right[i / 2];
 }
 
@@ -232,7 +253,14 @@ static void damage(drawing *d)
 
 /* ---- one text, twice ---- */
 
-enum { MOST_NUMBER = 22, SHORT_TABLE, SHORT_LIST, OUTCOMES };
+/* Besides the numbers: 10 by what is too short, texts accepted with bad states and constraints, and by how many numbers there
+ * are in the first line. */
+enum { MOST_NUMBER = 22, SHORT_TABLE, SHORT_LIST, WITH_BOTH, FIVE, SIX, SEVEN, EIGHT, NINE, OUTCOMES };
+
+static const char *const outcome_names[OUTCOMES] = {
+    [SHORT_TABLE] = "10 for the table", [SHORT_LIST] = "10 for the list", [WITH_BOTH] = "0 with bad states and constraints",
+    [FIVE] = "0 with five numbers",     [SIX] = "with six",               [SEVEN] = "with seven",
+    [EIGHT] = "with eight",             [NINE] = "with nine"};
 
 static uint64_t met[OUTCOMES];
 
@@ -271,7 +299,8 @@ static uint32_t read_twice(size_t words, size_t list, const uint16_t **table)
         fail(what);
     }
     if (a.counts.inputs != b.counts.inputs || a.counts.latches != b.counts.latches || a.counts.lamps != b.counts.lamps ||
-        a.counts.gates != b.counts.gates || a.variables != b.variables)
+        a.counts.gates != b.counts.gates || a.counts.bads != b.counts.bads || a.counts.constraints != b.counts.constraints ||
+        a.variables != b.variables)
         fail("counts or M differ");
     if (text_bytes != 0 && memcmp(t, text, text_bytes) != 0)
         fail("the text was changed");
@@ -297,15 +326,33 @@ static void to_record(uint8_t *record, const bool *value, size_t count)
         set_field(record, i, value[i]);
 }
 
-/* The text by its own lines, and the table by the library's tick: the same lamps and states from any allowed start. */
+/* A tick shows lamps alone: the table once more with so many of its literals in the lamps' places, from the first named on. */
+static void tick_window(chudravik_counts c, const uint16_t *table, size_t from, size_t count, const uint8_t *state,
+                        const uint8_t *switches, uint8_t *next, uint8_t *shown)
+{
+    static uint16_t window[WORDS];
+    size_t literals = 2 * c.latches, gates = CHUDRAVIK_TABLE_WORDS(c) - 2 * c.gates;
+    memcpy(window, table, 2 * literals);
+    memcpy(window + literals, table + literals + from, 2 * count);
+    memcpy(window + literals + count, table + gates, 4 * c.gates);
+    c.lamps = count;
+    c.bads = c.constraints = 0;
+    if (chudravik_tick(c, window, WORDS, state, CHUDRAVIK_RECORD_BYTES(c.latches), switches, CHUDRAVIK_RECORD_BYTES(c.inputs),
+                       next, CHUDRAVIK_RECORD_BYTES(c.latches), shown, CHUDRAVIK_RECORD_BYTES(count)) != 0)
+        fail("the tick refused the table");
+}
+
+/* The text by its own lines, and the table by the library's tick: the same lamps, bad states, constraints and states from any
+ * allowed start. */
 static void follow(const drawing *d, const uint16_t *table)
 {
     static bool switches[CHUDRAVIK_MOST_INPUTS], state[CHUDRAVIK_MOST_LATCHES], next[CHUDRAVIK_MOST_LATCHES],
-        lamps[CHUDRAVIK_MOST_LAMPS];
+        shown[MOST_SHOWN];
     static uint8_t r[CHUDRAVIK_RECORD_BYTES(CHUDRAVIK_MOST_INPUTS)], s[CHUDRAVIK_RECORD_BYTES(CHUDRAVIK_MOST_LATCHES)],
         n[CHUDRAVIK_RECORD_BYTES(CHUDRAVIK_MOST_LATCHES)], o[CHUDRAVIK_RECORD_BYTES(CHUDRAVIK_MOST_LAMPS)],
-        due_next[CHUDRAVIK_RECORD_BYTES(CHUDRAVIK_MOST_LATCHES)], due_lamps[CHUDRAVIK_RECORD_BYTES(CHUDRAVIK_MOST_LAMPS)];
+        due_next[CHUDRAVIK_RECORD_BYTES(CHUDRAVIK_MOST_LATCHES)], due_shown[CHUDRAVIK_RECORD_BYTES(CHUDRAVIK_MOST_LAMPS)];
     chudravik_counts c = d->counts;
+    size_t all = c.lamps + c.bads + c.constraints;
     for (size_t i = 0; i < c.latches; i++) {
         if (table[2 * i + 1] != d->reset[i])
             fail("a reset differs");
@@ -316,16 +363,27 @@ static void follow(const drawing *d, const uint16_t *table)
             switches[i] = chance(50);
         to_record(r, switches, c.inputs);
         to_record(s, state, c.latches);
-        if (chudravik_tick(c, table, WORDS, s, sizeof s, r, sizeof r, n, sizeof n, o, sizeof o) != 0)
-            fail("the tick refused the table");
-        tick_drawing(d, switches, state, next, lamps);
+        tick_drawing(d, switches, state, next, shown);
         to_record(due_next, next, c.latches);
-        to_record(due_lamps, lamps, c.lamps);
-        if (memcmp(n, due_next, CHUDRAVIK_RECORD_BYTES(c.latches)) != 0 ||
-            memcmp(o, due_lamps, CHUDRAVIK_RECORD_BYTES(c.lamps)) != 0)
-            fail("the text and the table differ at a tick");
+        for (size_t from = 0, count; from == 0 || from < all; from += CHUDRAVIK_MOST_LAMPS) {
+            count = all - from < CHUDRAVIK_MOST_LAMPS ? all - from : CHUDRAVIK_MOST_LAMPS;
+            tick_window(c, table, from, count, s, r, n, o);
+            to_record(due_shown, shown + from, count);
+            if (memcmp(n, due_next, CHUDRAVIK_RECORD_BYTES(c.latches)) != 0 ||
+                memcmp(o, due_shown, CHUDRAVIK_RECORD_BYTES(count)) != 0)
+                fail("the text and the table differ at a tick");
+        }
         memcpy(state, next, sizeof state);
     }
+}
+
+/* One before each number. */
+static size_t spaces_in_first_line(void)
+{
+    size_t spaces = 0;
+    for (size_t i = 0; i < text_bytes && text[i] != '\n'; i++)
+        spaces += text[i] == ' ';
+    return spaces;
 }
 
 static void try_text(size_t short_table, size_t short_list)
@@ -335,7 +393,7 @@ static void try_text(size_t short_table, size_t short_list)
     uint32_t own = read_drawing(text, text_bytes, &read);
     size_t words = WORDS, list = LIST;
     if (own == 0 && short_table)
-        words = CHUDRAVIK_TABLE_WORDS(read.counts.latches, read.counts.lamps, read.counts.gates);
+        words = CHUDRAVIK_TABLE_WORDS(read.counts);
     if (own == 0 && short_list)
         list = read.most + 1;
     if (own == 0 && short_table == 2 && words > 0)
@@ -345,7 +403,11 @@ static void try_text(size_t short_table, size_t short_list)
     uint32_t number = read_twice(words, list, &table);
     met[number]++;
     if (number == 10)
-        met[words < CHUDRAVIK_TABLE_WORDS(read.counts.latches, read.counts.lamps, read.counts.gates) ? SHORT_TABLE : SHORT_LIST]++;
+        met[words < CHUDRAVIK_TABLE_WORDS(read.counts) ? SHORT_TABLE : SHORT_LIST]++;
+    if (number == 0) {
+        met[WITH_BOTH] += read.counts.bads > 0 && read.counts.constraints > 0;
+        met[FIVE + spaces_in_first_line() - 5]++;
+    }
     if (number == 0 && words == WORDS)
         follow(&read, table);
 }
@@ -409,7 +471,7 @@ static void shuffled_circuit(const char *name)
         fail(name);
     drawing *d = &made;
     chudravik_counts c = d->counts = a.counts;
-    size_t lines = c.inputs + c.latches + c.gates, at = 2 * c.latches + c.lamps;
+    size_t lines = c.inputs + c.latches + c.gates, at = CHUDRAVIK_TABLE_WORDS(c) - 2 * c.gates;
     d->most = lines + below(30);
     some_variables(to + 1, lines, d->most);
 #define MOVED(x) (2 * to[(x) / 2] + (x) % 2)
@@ -423,6 +485,10 @@ static void shuffled_circuit(const char *name)
     }
     for (size_t i = 0; i < c.lamps; i++)
         d->lamp[i] = MOVED(plain[2 * c.latches + i]);
+    for (size_t i = 0; i < c.bads; i++)
+        d->bad[i] = MOVED(plain[2 * c.latches + c.lamps + i]);
+    for (size_t i = 0; i < c.constraints; i++)
+        d->constraint[i] = MOVED(plain[2 * c.latches + c.lamps + c.bads + i]);
     for (size_t i = 0; i < c.gates; i++)
         line[i] = i;
     shuffle(line, c.gates);
@@ -458,11 +524,15 @@ int main(int argc, char **argv)
         for (size_t times = 0; times < 20; times++)
             shuffled_circuit(argv[i]);
     int failed = 0;
-    static const unsigned can_give[] = {0, 1, 2, 3, 4, 6, 8, 9, 20, 21, 22, SHORT_TABLE, SHORT_LIST};
+    static const unsigned can_give[] = {0, 1, 2, 3, 4, 6, 8, 9, 20, 21, 22, SHORT_TABLE, SHORT_LIST,
+                                        WITH_BOTH, FIVE, SIX, SEVEN, EIGHT, NINE};
     for (size_t i = 0; i < sizeof can_give / sizeof can_give[0]; i++) {
         unsigned n = can_give[i];
-        printf("%s%u: %" PRIu64 "%s", n == SHORT_TABLE ? "10 for the table, " : n == SHORT_LIST ? "10 for the list, " : "", n, met[n],
-               i + 1 < sizeof can_give / sizeof can_give[0] ? "; " : "\n");
+        const char *end = i + 1 < sizeof can_give / sizeof can_give[0] ? "; " : "\n";
+        if (outcome_names[n] != NULL)
+            printf("%s: %" PRIu64 "%s", outcome_names[n], met[n], end);
+        else
+            printf("%u: %" PRIu64 "%s", n, met[n], end);
         if (calls >= 4000 && met[n] < 20) {
             fprintf(stderr, "drawings: outcome %u was met too seldom\n", n);
             failed = 1;

@@ -49,6 +49,8 @@ static chudravik_counts take_counts(string_rest *rest)
     counts.latches = take_number(rest);
     counts.lamps = take_number(rest);
     counts.gates = take_number(rest);
+    counts.bads = take_number(rest);
+    counts.constraints = take_number(rest);
     return counts;
 }
 

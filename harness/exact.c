@@ -1,7 +1,7 @@
-/* When "open" can be trusted too: on boards without switches, with start values and without widening, every state of a
- * small board is tried against the stored cubes, and every verdict against the ticks until the board repeats itself.
- * What holds then must fail now and then where the board has a switch, a latch without a start value, or w is 1:
- * otherwise these boards would show nothing.
+/* When "open" can be trusted too: on boards without switches and constraints, with start values and without widening,
+ * every state of a small board is tried against the stored cubes, and every verdict, of lamps and of bad states, against
+ * the ticks until the board repeats itself. What holds then must fail now and then where the board has a switch, a latch
+ * without a start value, or w is 1: otherwise these boards would show nothing.
  *
  *   exact BOARDS SEED
  */
@@ -35,12 +35,20 @@ static void fail(const char *what)
     exit(1);
 }
 
+/* Lamps, and behind them bad states: both are judged alike. */
+static size_t watched(const struct board *board)
+{
+    return board->counts.lamps + board->counts.bads;
+}
+
 static void draw_board(struct board *board, size_t switches, bool started)
 {
     chudravik_counts *counts = &board->counts;
-    counts->inputs = switches;
+    *counts = (chudravik_counts){.inputs = switches};
     counts->latches = between(started ? 0 : 1, MOST_LATCHES);
     counts->lamps = between(1, MOST_LAMPS);
+    counts->bads = chance(30) ? below(counts->lamps + 1) : 0;
+    counts->lamps -= counts->bads;
     counts->gates = below(MOST_GATES + 1);
     size_t leaves = 1 + switches + counts->latches;
     size_t variables = leaves + counts->gates;
@@ -51,7 +59,7 @@ static void draw_board(struct board *board, size_t switches, bool started)
     }
     if (!started)
         board->table[1] = CHUDRAVIK_NO_START;
-    for (size_t i = 0; i < counts->lamps; i++)
+    for (size_t i = 0; i < watched(board); i++)
         *word++ = (uint16_t)below(2 * variables);
     for (size_t i = 0; i < counts->gates; i++) {
         *word++ = (uint16_t)below(2 * (leaves + i));
@@ -73,11 +81,11 @@ static unsigned tick(const struct board *board, unsigned state, unsigned *lamps)
     for (size_t i = 0; i < counts->latches; i++)
         value[v++] = state >> i & 1;
     const uint16_t *lamp = board->table + 2 * counts->latches;
-    const uint16_t *gate = lamp + counts->lamps;
+    const uint16_t *gate = lamp + watched(board);
     for (size_t i = 0; i < counts->gates; i++)
         value[v++] = literal(value, gate[2 * i]) & literal(value, gate[2 * i + 1]);
     *lamps = 0;
-    for (size_t i = 0; i < counts->lamps; i++)
+    for (size_t i = 0; i < watched(board); i++)
         *lamps |= literal(value, lamp[i]) << i;
     unsigned next = 0;
     for (size_t i = 0; i < counts->latches; i++)
@@ -145,7 +153,7 @@ static struct answers ask(const struct board *board, size_t w)
 /* Whether a lamp is open though it is lit at every tick of the course or dark at every one. */
 static bool open_for_nothing(const struct board *board, const struct course *course, const struct answers *answers)
 {
-    for (size_t i = 0; i < board->counts.lamps; i++) {
+    for (size_t i = 0; i < watched(board); i++) {
         size_t lit = 0;
         for (size_t t = 0; t < course->length; t++)
             lit += course->lamps[t] >> i & 1;
@@ -174,7 +182,7 @@ static void look_exactly(const struct board *board, const struct course *course,
         if (stored != occurs[state])
             fail("a state occurs and is not stored, or is stored and does not occur");
     }
-    for (size_t i = 0; i < board->counts.lamps; i++) {
+    for (size_t i = 0; i < watched(board); i++) {
         size_t lit = 0;
         for (size_t t = 0; t < course->length; t++)
             lit += course->lamps[t] >> i & 1;
@@ -204,7 +212,7 @@ int main(int arguments, char **argument)
         states += course.length;
         if (course.length > longest)
             longest = course.length;
-        for (size_t i = 0; i < board.counts.lamps; i++)
+        for (size_t i = 0; i < watched(&board); i++)
             open += CHUDRAVIK_FIELD(answers.verdict, i) == CHUDRAVIK_UNKNOWN;
         answers = ask(&board, 1);
         blurred[0] += open_for_nothing(&board, &course, &answers);

@@ -1,12 +1,13 @@
 /* Circuits that other tools have written: foreign FILE.aag..
  *                                         foreign --binary FILE.aag
  *
- * Each file must be read; written back, it must be the same text up to its comment; that text must read to the same
+ * Each file must be read; written back, it must be the same text up to its comment, but for noughts at the end of its first
+ * line, which the tool shows where there are bad states or constraints; that text must read to the same
  * counts and words, and so must the file with bytes 13 and 10 at the end of each line, but not with the ending of one
- * line alone changed; and the report program's chain (w = 16, 65,536 bytes) must close, and then be judged, or be refused
- * by 15. Beside FILE.aag stands FILE.aig, the same circuit in the binary form by the same tool, which must be read as that
- * table with its operands larger first, and FILE.abc.aig, which a third tool made of it; what is written of either must be
- * the same bytes up to the comment. One line a file
+ * line alone changed; and the report program's chain (w = 16, 65,536 bytes) must close or end, and then be judged, or be
+ * refused by 15. Beside FILE.aag stands FILE.aig, the same circuit in the binary form by the same tool, which must be
+ * read as that table with its operands larger first, and FILE.abc.aig, which a third tool made of it; what is written of
+ * either must be the same bytes up to the comment. One line a file
  * goes to standard output, to be compared with the stored ones. Exits 1 on any failure.
  *
  * With --binary the file's circuit goes to standard output in the binary form, for another tool to look at. */
@@ -24,7 +25,7 @@ static uint8_t written[CHUDRAVIK_MOST_WRITTEN];
 static uint16_t table[CHUDRAVIK_MOST_TABLE_WORDS];
 static uint16_t table_again[CHUDRAVIK_MOST_TABLE_WORDS];
 static uint8_t cubes[CHUDRAVIK_MOST_CUBE_BYTES];
-static uint8_t verdict[CHUDRAVIK_RECORD_BYTES(CHUDRAVIK_MOST_LAMPS)];
+static uint8_t verdict[CHUDRAVIK_MOST_VERDICT_BYTES];
 static uint8_t settled[CHUDRAVIK_RECORD_BYTES(CHUDRAVIK_MOST_LATCHES)];
 
 static uint8_t binary[CHUDRAVIK_MOST_BINARY];
@@ -60,33 +61,48 @@ static size_t bytes_before_comment(size_t text_bytes)
     return text_bytes;
 }
 
+/* How many bytes of noughts the file's first line has behind what was written as its first line: ` 0`, some times. */
+static size_t bytes_of_noughts(const uint8_t *made)
+{
+    size_t at = 0, bytes = 0;
+    while (made[at] != '\n' && made[at] == text[at])
+        at++;
+    while (text[at + bytes] == ' ' && text[at + bytes + 1] == '0')
+        bytes += 2;
+    return bytes;
+}
+
+/* Whether the file begins with what was written, but for these noughts. */
+static int begins_with(const uint8_t *made, size_t bytes, size_t noughts)
+{
+    size_t first = (size_t)((const uint8_t *)memchr(made, '\n', bytes) - made);
+    return memcmp(made, text, first) == 0 && memcmp(made + first, text + first + noughts, bytes - first) == 0;
+}
+
 /* Written text leaves out a reset of 0, gives the own literal where there is no start value, and has no comment. The tool
- * does the same, so nothing but the comment may differ. */
+ * does the same, so nothing but the comment and the noughts may differ. */
 static int same_when_written(const char *path, chudravik_counts counts, size_t text_bytes, size_t *written_bytes)
 {
-    size_t words = CHUDRAVIK_TABLE_WORDS(counts.latches, counts.lamps, counts.gates);
+    size_t words = CHUDRAVIK_TABLE_WORDS(counts);
     chudravik_write_answer answer = chudravik_write(counts, table, words, written, sizeof written);
     if (answer.number != CHUDRAVIK_ACCEPTED)
         return failed(path, "refused by the writer", answer.number);
     *written_bytes = answer.bytes;
-    size_t due = bytes_before_comment(text_bytes);
-    if (answer.bytes != due)
+    size_t noughts = bytes_of_noughts(written);
+    if (answer.bytes + noughts != bytes_before_comment(text_bytes))
         return failed(path, "written with another length", answer.bytes);
-    for (size_t i = 0; i < due; i++)
-        if (written[i] != text[i])
-            return failed(path, "written with another byte in this place", i);
-    return 1;
+    return begins_with(written, answer.bytes, noughts) ? 1 : failed(path, "written with other bytes", 0);
 }
 
 static int same_counts(chudravik_counts one, chudravik_counts other)
 {
     return one.inputs == other.inputs && one.latches == other.latches && one.lamps == other.lamps &&
-           one.gates == other.gates;
+           one.gates == other.gates && one.bads == other.bads && one.constraints == other.constraints;
 }
 
 static int same_when_read_again(const char *path, chudravik_counts counts, size_t written_bytes)
 {
-    size_t words = CHUDRAVIK_TABLE_WORDS(counts.latches, counts.lamps, counts.gates);
+    size_t words = CHUDRAVIK_TABLE_WORDS(counts);
     memset(table_again, 0xff, sizeof table_again);
     chudravik_read_answer again = chudravik_read(written, written_bytes, table_again, words);
     if (again.number != CHUDRAVIK_ACCEPTED)
@@ -126,8 +142,9 @@ static uint32_t number_due(size_t odd, size_t body_lines)
 
 static int one_ending_throughout(const char *path, chudravik_counts counts, size_t text_bytes)
 {
-    size_t words = CHUDRAVIK_TABLE_WORDS(counts.latches, counts.lamps, counts.gates);
-    size_t body_lines = counts.inputs + counts.latches + counts.lamps + counts.gates;
+    size_t words = CHUDRAVIK_TABLE_WORDS(counts);
+    size_t body_lines =
+        counts.inputs + counts.latches + counts.lamps + counts.bads + counts.constraints + counts.gates;
     size_t lines = lines_of(bytes_before_comment(text_bytes)) + (bytes_before_comment(text_bytes) < text_bytes);
     chudravik_read_answer answer = chudravik_read(saved, save_at_the_office(text_bytes, 1, SIZE_MAX), table_again, words);
     if (answer.number != CHUDRAVIK_ACCEPTED || !same_counts(answer.counts, counts) ||
@@ -164,9 +181,10 @@ static int same_when_written_binary(const char *path, chudravik_counts *counts)
     *counts = read.counts;
     chudravik_write_answer made =
         chudravik_write_binary(*counts, table_again, CHUDRAVIK_MOST_TABLE_WORDS, binary, sizeof binary);
-    if (made.number != CHUDRAVIK_ACCEPTED || made.bytes > bytes || memcmp(binary, text, made.bytes) != 0)
+    size_t noughts = made.number == CHUDRAVIK_ACCEPTED ? bytes_of_noughts(binary) : 0, due = made.bytes + noughts;
+    if (made.number != CHUDRAVIK_ACCEPTED || due > bytes || !begins_with(binary, made.bytes, noughts))
         return failed(path, "written with other bytes", made.number);
-    if (made.bytes < bytes && text[made.bytes] != 'c')
+    if (due < bytes && text[due] != 'c')
         return failed(path, "written with another length", made.bytes);
     return 1;
 }
@@ -174,7 +192,7 @@ static int same_when_written_binary(const char *path, chudravik_counts *counts)
 /* The table of the text, larger operands first, is the table of its binary twin. */
 static int same_twin(const char *path, chudravik_counts counts)
 {
-    size_t words = CHUDRAVIK_TABLE_WORDS(counts.latches, counts.lamps, counts.gates), gates = words - 2 * counts.gates;
+    size_t words = CHUDRAVIK_TABLE_WORDS(counts), gates = words - 2 * counts.gates;
     chudravik_counts twin, third;
     if (!same_when_written_binary(beside(path, ".aig"), &twin))
         return 0;
@@ -189,7 +207,11 @@ static int same_twin(const char *path, chudravik_counts counts)
     }
     if (!same_when_written_binary(beside(path, ".abc.aig"), &third))
         return 0;
-    return third.inputs >= counts.inputs && third.lamps == counts.lamps ? 1 : failed(path, "other lamps in the third form", 0);
+    /* That tool makes of bad states lamps, or of lamps bad states where there are constraints. */
+    return third.inputs >= counts.inputs && third.constraints == counts.constraints &&
+                   third.lamps + third.bads == counts.lamps + counts.bads
+               ? 1
+               : failed(path, "other lamps in the third form", 0);
 }
 
 static int write_binary(const char *path)
@@ -205,14 +227,15 @@ static int write_binary(const char *path)
     return made.number == CHUDRAVIK_ACCEPTED && fwrite(binary, 1, made.bytes, stdout) == made.bytes;
 }
 
-static int print_verdicts(const char *path, size_t lamps)
+/* Those of the lamps, and behind a word those of the bad states. */
+static int print_verdicts(const char *path, chudravik_counts counts)
 {
     static const char *const words[] = {"open", "never", "always"};
-    for (size_t lamp = 0; lamp < lamps; lamp++) {
-        unsigned field = CHUDRAVIK_FIELD(verdict, lamp);
+    for (size_t i = 0; i < counts.lamps + counts.bads; i++) {
+        unsigned field = CHUDRAVIK_FIELD(verdict, i);
         if (field >= sizeof words / sizeof words[0])
-            return failed(path, "pair 11 in the verdict of this lamp", lamp);
-        printf(" %s", words[field]);
+            return failed(path, "pair 11 in the verdict in this place", i);
+        printf("%s %s", i == counts.lamps ? " bad" : "", words[field]);
     }
     putchar('\n');
     return 1;
@@ -221,12 +244,14 @@ static int print_verdicts(const char *path, size_t lamps)
 static int report_run(const char *path, chudravik_counts counts)
 {
     const char *slash = strrchr(path, '/');
-    size_t words = CHUDRAVIK_TABLE_WORDS(counts.latches, counts.lamps, counts.gates);
+    size_t words = CHUDRAVIK_TABLE_WORDS(counts);
     chudravik_chain_answer chain = chudravik_chain(counts, table, words, REPORT_INTERVAL, cubes, sizeof cubes);
     if (chain.number != CHUDRAVIK_ACCEPTED && chain.number != CHUDRAVIK_NO_ROOM)
         return failed(path, "refused as a chain", chain.number);
     printf("%s inputs %zu latches %zu lamps %zu gates %zu", slash == NULL ? path : slash + 1, counts.inputs,
            counts.latches, counts.lamps, counts.gates);
+    if (counts.bads + counts.constraints > 0)
+        printf(" bads %zu constraints %zu", counts.bads, counts.constraints);
     if (chain.number == CHUDRAVIK_NO_ROOM) {
         printf(" refused 15 cubes %zu\n", chain.cubes);
         return 1;
@@ -235,8 +260,11 @@ static int report_run(const char *path, chudravik_counts counts)
                                                    verdict, sizeof verdict, settled, sizeof settled);
     if (judge.number != CHUDRAVIK_ACCEPTED)
         return failed(path, "refused by the judge", judge.number);
-    printf(" cubes %zu back %zu settled %zu:", chain.cubes, chain.back, judge.settled);
-    return print_verdicts(path, counts.lamps);
+    if (chain.back == chain.cubes)
+        printf(" cubes %zu ended:", chain.cubes);
+    else
+        printf(" cubes %zu back %zu settled %zu:", chain.cubes, chain.back, judge.settled);
+    return print_verdicts(path, counts);
 }
 
 static int examine(const char *path)

@@ -32,7 +32,7 @@ static int reads(chudravik_counts *counts)
         chudravik_read((const uint8_t *)text, sizeof text - 1, table, CHUDRAVIK_MOST_TABLE_WORDS);
     *counts = read.counts;
     return read.number == CHUDRAVIK_ACCEPTED && counts->inputs == 0 && counts->latches == 2 && counts->lamps == 1 &&
-           counts->gates == 1;
+           counts->gates == 1 && counts->bads == 0 && counts->constraints == 0;
 }
 
 static int reads_any(chudravik_counts counts)
@@ -65,7 +65,7 @@ static int begins(chudravik_counts counts)
 
 static int writes_back(chudravik_counts counts)
 {
-    size_t words = CHUDRAVIK_TABLE_WORDS(counts.latches, counts.lamps, counts.gates);
+    size_t words = CHUDRAVIK_TABLE_WORDS(counts);
     chudravik_write_answer write = chudravik_write(counts, table, words, written, sizeof written);
     return write.number == CHUDRAVIK_ACCEPTED && write.bytes == sizeof text - 1 &&
            memcmp(written, text, write.bytes) == 0;
@@ -150,6 +150,32 @@ static int explains(chudravik_counts counts)
            CHUDRAVIK_WHY_STACK > CHUDRAVIK_MOST_STACK;
 }
 
+/* A latch that toggles, without a lamp: a bad state where it is 1, assumed never to be. It is 1 after a tick, so the chain ends
+ * with one cube, and the bad state never is. Assumed to be 1 it has no cube. */
+static int ends(void)
+{
+    static const char assumed[] = "aag 1 0 1 0 0 1 1\n2 3\n2\n3\n";
+    uint8_t verdict[CHUDRAVIK_MOST_VERDICT_BYTES], settled[1];
+    uint16_t words[4];
+    chudravik_read_answer read = chudravik_read((const uint8_t *)assumed, sizeof assumed - 1, words, 4);
+    chudravik_chain_answer chain = chudravik_chain(read.counts, words, 4, 0, cubes, sizeof cubes);
+    chudravik_judge_answer judge = chudravik_judge(read.counts, words, 4, cubes, sizeof cubes, chain.cubes, chain.back,
+                                                   verdict, sizeof verdict, settled, sizeof settled);
+    words[3] = 2;
+    chudravik_chain_answer none = chudravik_chain(read.counts, words, 4, 0, cubes, sizeof cubes);
+    chudravik_counts many = read.counts;
+    many.bads = CHUDRAVIK_MOST_BADS + 1;
+    chudravik_chain_answer refused = chudravik_chain(many, words, 4, 0, cubes, sizeof cubes);
+    many.bads = 0;
+    many.constraints = CHUDRAVIK_MOST_CONSTRAINTS;
+    chudravik_chain_answer lampless = chudravik_chain(many, words, 4, 0, cubes, sizeof cubes);
+    return read.number == CHUDRAVIK_ACCEPTED && read.counts.bads == 1 && read.counts.constraints == 1 &&
+           CHUDRAVIK_TABLE_WORDS(read.counts) == 4 && chain.number == CHUDRAVIK_ACCEPTED && chain.cubes == 1 &&
+           chain.back == 1 && judge.number == CHUDRAVIK_ACCEPTED && CHUDRAVIK_FIELD(verdict, 0) == CHUDRAVIK_LOW &&
+           judge.settled == 0 && none.number == CHUDRAVIK_ACCEPTED && none.cubes == 0 && none.back == 0 &&
+           refused.number == CHUDRAVIK_COUNTS && lampless.number == CHUDRAVIK_NO_LAMPS;
+}
+
 static int merges(void)
 {
     const uint8_t one = CHUDRAVIK_LOW << 6 | CHUDRAVIK_HIGH << 4, other = CHUDRAVIK_LOW << 6 | CHUDRAVIK_LOW << 4;
@@ -161,9 +187,9 @@ static int merges(void)
 int main(void)
 {
     chudravik_counts counts;
-    if (!version_agrees() || !reads(&counts) || !reads_any(counts) || !begins(counts) || !writes_back(counts) || !crosses(counts) || !ticks(counts) ||
-        !chains(counts) || !widens(counts) || !judges(counts) || !covers(counts) || !explains(counts) ||
-        !merges()) {
+    if (!version_agrees() || !reads(&counts) || !reads_any(counts) || !begins(counts) || !writes_back(counts) ||
+        !crosses(counts) || !ticks(counts) || !chains(counts) || !widens(counts) || !judges(counts) || !covers(counts) ||
+        !explains(counts) || !ends() || !merges()) {
         fputs("header: not as it must be\n", stderr);
         return 1;
     }

@@ -1,7 +1,8 @@
 /* Null pointers with length 0: each call on several circuits, with every set of its buffers taken away and handed as
  * null. The simulator is handed an empty buffer in their place (twice.h), and both must agree. Fails too if a call was
- * never accepted with a null pointer: the circuit without counts needs no table. A chain, a beginners' chain, a judge, a
- * cover and a why need a lamp, so they need each of their buffers, and the shortest record of a merge has a byte.
+ * never accepted with a null pointer: the circuit without counts needs no table, and a judge or a cover of no cube needs no
+ * cubes. A chain, a beginners' chain and a why need a lamp or a bad state, so they need each of their buffers, and the
+ * shortest record of a merge has a byte.
  */
 #include "twice.h"
 
@@ -23,23 +24,29 @@ typedef struct {
     size_t n;
 } sample;
 
-/* No counts; a switch behind a gate that is never lit; two latches that swap. */
+/* No counts; a switch behind a gate that is never lit; two latches that swap; a bad state under a constraint that is 0 at the
+ * start, whose chain has no cube. */
 static const sample samples[] = {
     {.text = "aag 0 0 0 0 0\n", .binary = "aig 0 0 0 0 0\n", .cubes = {0x40}, .n = 1},
     {.text = "aag 2 1 0 1 1\n2\n4\n4 2 3\n",
      .binary = "aig 2 1 0 1 1\n4\n\1\1",
-     .counts = {1, 0, 1, 1},
+     .counts = {1, 0, 1, 1, 0, 0},
      .table = {4, 2, 3},
      .switches = 0x80,
      .cubes = {0x40},
      .n = 1},
     {.text = "aag 3 0 2 1 1\n2 4\n4 2 1\n6\n6 4 2\n",
      .binary = "aig 3 0 2 1 1\n4\n2 1\n6\n\2\2",
-     .counts = {0, 2, 1, 1},
+     .counts = {0, 2, 1, 1, 0, 0},
      .table = {4, 0, 2, 1, 6, 4, 2},
      .state = 0x60,
      .cubes = {0x58, 0x64},
      .n = 2},
+    {.text = "aag 1 0 1 0 0 1 1\n2 2\n3\n2\n",
+     .binary = "aig 1 0 1 0 0 1 1\n2\n3\n2\n",
+     .counts = {0, 1, 0, 0, 1, 1},
+     .table = {2, 0, 3, 2},
+     .state = 0x40},
 };
 
 enum { SAMPLES = sizeof samples / sizeof samples[0] };
@@ -103,7 +110,7 @@ static size_t given_bytes(const sample *s, enum call call, enum role role)
     case TEXT:
         return strlen(text_of(s, call));
     case TABLE:
-        return 2 * CHUDRAVIK_TABLE_WORDS(s->counts.latches, s->counts.lamps, s->counts.gates);
+        return 2 * CHUDRAVIK_TABLE_WORDS(s->counts);
     case CUBES:
         return s->n;
     default:
@@ -161,7 +168,7 @@ static void try_sets(twice *t, enum call call)
             accepted += t->library.number == CHUDRAVIK_ACCEPTED;
         }
     printf("%s: %zu calls with null pointers, %zu accepted\n", call_names[call], made, accepted);
-    if (accepted == 0 && call < CHAIN) {
+    if (accepted == 0 && (call < CHAIN || call == JUDGE || call == COVER)) {
         fprintf(stderr, "nulls: %s was never accepted\n", call_names[call]);
         exit(1);
     }

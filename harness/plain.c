@@ -7,7 +7,7 @@
 enum {
     VALUE_BYTES = (CHUDRAVIK_MOST_VARIABLES + 1) / 4, /* "a working table of 4,096 values", packed as a record */
     MOST_CUBE = CHUDRAVIK_CUBE_BYTES(CHUDRAVIK_MOST_LATCHES),
-    MOST_LAMP_RECORD = CHUDRAVIK_RECORD_BYTES(CHUDRAVIK_MOST_LAMPS)
+    MOST_VERDICT = CHUDRAVIK_MOST_VERDICT_BYTES
 };
 
 /* ---- values and records ---- */
@@ -80,7 +80,8 @@ static void agree(uint8_t *restrict record, const uint8_t *restrict other, size_
 static bool counts_kept(const chudravik_counts *counts)
 {
     return counts->inputs <= CHUDRAVIK_MOST_INPUTS && counts->latches <= CHUDRAVIK_MOST_LATCHES &&
-           counts->lamps <= CHUDRAVIK_MOST_LAMPS && counts->gates <= CHUDRAVIK_MOST_GATES;
+           counts->lamps <= CHUDRAVIK_MOST_LAMPS && counts->gates <= CHUDRAVIK_MOST_GATES &&
+           counts->bads <= CHUDRAVIK_MOST_BADS && counts->constraints <= CHUDRAVIK_MOST_CONSTRAINTS;
 }
 
 static size_t variables_of(const chudravik_counts *counts)
@@ -90,7 +91,19 @@ static size_t variables_of(const chudravik_counts *counts)
 
 static size_t table_length(const chudravik_counts *counts)
 {
-    return CHUDRAVIK_TABLE_WORDS(counts->latches, counts->lamps, counts->gates);
+    return CHUDRAVIK_TABLE_WORDS(*counts);
+}
+
+/* "bad-state and constraint literals stand between lamps and gates, in that order" */
+static size_t literals_of(const chudravik_counts *counts)
+{
+    return counts->lamps + counts->bads + counts->constraints;
+}
+
+/* Lamps and bad states: what has a verdict. */
+static size_t watched_of(const chudravik_counts *counts)
+{
+    return counts->lamps + counts->bads;
 }
 
 static const uint16_t *lamps_of(const chudravik_counts *counts, const uint16_t *table)
@@ -100,7 +113,7 @@ static const uint16_t *lamps_of(const chudravik_counts *counts, const uint16_t *
 
 static const uint16_t *gates_of(const chudravik_counts *counts, const uint16_t *table)
 {
-    return lamps_of(counts, table) + counts->lamps;
+    return lamps_of(counts, table) + literals_of(counts);
 }
 
 /* Rules 6, 7 and 8. */
@@ -113,7 +126,7 @@ static bool rules_kept(const chudravik_counts *counts, const uint16_t *table)
         }
     }
     const uint16_t *lamps = lamps_of(counts, table);
-    for (size_t i = 0; i < counts->lamps; i++) {
+    for (size_t i = 0; i < literals_of(counts); i++) {
         if (lamps[i] > most) {
             return false;
         }
@@ -143,10 +156,10 @@ static uint32_t circuit_refusal(const chudravik_counts *counts, const uint16_t *
     return CHUDRAVIK_ACCEPTED;
 }
 
-/* "16, no lamps, in the run directly after 3", so in both of its calls and in the cover. */
+/* "16 now means O + B is 0", directly after 3 in both calls of the run and in the cover. */
 static uint32_t board_refusal(const chudravik_counts *counts, const uint16_t *table, size_t table_words)
 {
-    if (counts_kept(counts) && counts->lamps == 0) {
+    if (counts_kept(counts) && watched_of(counts) == 0) {
         return CHUDRAVIK_NO_LAMPS;
     }
     return circuit_refusal(counts, table, table_words);
@@ -245,6 +258,27 @@ static void store_next(const chudravik_counts *counts, const uint16_t *table, co
 static void store_lamps(const chudravik_counts *counts, const uint16_t *table, const uint8_t *values, uint8_t *out)
 {
     store(values, lamps_of(counts, table), 1, counts->lamps, out);
+}
+
+static void store_watched(const chudravik_counts *counts, const uint16_t *table, const uint8_t *values, uint8_t *out)
+{
+    store(values, lamps_of(counts, table), 1, watched_of(counts), out);
+}
+
+/* Whether some constraint is 0 in a cube; looked at only where there are constraints. */
+static bool blocked(const chudravik_counts *counts, const uint16_t *table, const uint8_t *cube, uint8_t *values)
+{
+    const uint16_t *constraints = lamps_of(counts, table) + watched_of(counts);
+    if (counts->constraints == 0) {
+        return false;
+    }
+    settle_cube(counts, table, cube, values);
+    for (size_t i = 0; i < counts->constraints; i++) {
+        if (literal(values, constraints[i]) == CHUDRAVIK_LOW) {
+            return true;
+        }
+    }
+    return false;
 }
 
 /* ---- the tick ---- */
@@ -379,7 +413,8 @@ static void advance(progress *run, const uint8_t *restrict a, const uint8_t *res
     run->count++;
 }
 
-/* Stores cubes until one falls inside cube *back, or there is no room; answers whether it is closed. */
+/* Stores cubes until one falls inside cube *back, a constraint is 0 in the next and *back is their count, or there is no room;
+ * answers whether it is closed or has ended. */
 static bool follow(const chudravik_counts *counts, const uint16_t *table, size_t w, uint8_t *cubes, size_t room,
                    size_t *count, size_t *back)
 {
@@ -387,11 +422,19 @@ static bool follow(const chudravik_counts *counts, const uint16_t *table, size_t
     uint8_t values[VALUE_BYTES] = {CHUDRAVIK_LOW << 6};
     uint8_t b[MOST_CUBE];
     progress run = {.count = 1};
-    store_start(table, counts->latches, CHUDRAVIK_PLAIN, cubes);
+    store_start(table, counts->latches, CHUDRAVIK_PLAIN, b);
+    if (blocked(counts, table, b, values)) {
+        *count = *back = 0;
+        return true;
+    }
+    memcpy(cubes, b, length);
     for (;;) {
         uint8_t *end = cubes + run.count * length;
         reach(counts, table, end - length, run.held, values, b);
-        *count = run.count;
+        *count = *back = run.count;
+        if (blocked(counts, table, b, values)) {
+            return true;
+        }
         *back = search(cubes, length, run.count, b);
         if (*back < run.count) {
             return true;
@@ -441,7 +484,7 @@ enum { BOARD_WORDS = 2 * BOARD_LATCHES + BOARD_LAMPS + 2 * BOARD_GATES };
 static bool small_board(const chudravik_counts *counts)
 {
     return counts->inputs <= BOARD_INPUTS && counts->latches <= BOARD_LATCHES && counts->lamps <= BOARD_LAMPS &&
-           counts->gates <= BOARD_GATES;
+           counts->gates <= BOARD_GATES && counts->bads == 0 && counts->constraints == 0;
 }
 
 static bool well_fed(const chudravik_counts *counts, const uint16_t *table)
@@ -508,27 +551,39 @@ static uint32_t given_refusal(const chudravik_counts *counts, const uint16_t *ta
     return CHUDRAVIK_ACCEPTED;
 }
 
-/* "per lamp 01 (never) if 0 in all n cubes, 10 (always) if 1 in all, else 00 (open)": the lamps of one cube more. */
-static void judge_lamps(const chudravik_counts *counts, const uint16_t *table, const uint8_t *values, bool first,
-                        uint8_t *verdict)
+/* "per lamp 01 (never) if 0 in all n cubes, 10 (always) if 1 in all, else 00 (open)", "Bad states get verdicts after the
+ * lamps": those of one cube more. */
+static void judge_watched(const chudravik_counts *counts, const uint16_t *table, const uint8_t *values, bool first,
+                          uint8_t *verdict)
 {
-    uint8_t lamps[MOST_LAMP_RECORD];
+    uint8_t watched[MOST_VERDICT];
     if (first) {
-        store_lamps(counts, table, values, verdict);
+        store_watched(counts, table, values, verdict);
     } else {
-        store_lamps(counts, table, values, lamps);
-        agree(verdict, lamps, record_length(counts->lamps));
+        store_watched(counts, table, values, watched);
+        agree(verdict, watched, record_length(watched_of(counts)));
+    }
+}
+
+/* "With n = 0 each verdict is never." */
+static void all_never(size_t fields, uint8_t *verdict)
+{
+    memset(verdict, 0, record_length(fields));
+    for (size_t i = 0; i < fields; i++) {
+        verdict[i / 4] = put_field(verdict[i / 4], i % 4, CHUDRAVIK_LOW);
     }
 }
 
 /* ---- judging a chain ---- */
 
-/* "per latch the known value shared by cubes j to n - 1, else 00", "marks left off" */
+/* "per latch the known value shared by cubes j to n - 1, else 00", "marks left off"; "An ended run settles nothing" */
 static void settle_latches(const uint8_t *cubes, size_t latches, size_t n, size_t j, uint8_t *settled)
 {
     size_t length = cube_length(latches);
     uint8_t merged[MOST_CUBE + 1] = {0};
-    memcpy(merged, cubes + j * length, length);
+    if (j < n) {
+        memcpy(merged, cubes + j * length, length);
+    }
     for (size_t k = j + 1; k < n; k++) {
         agree(merged, cubes + k * length, length);
     }
@@ -537,8 +592,9 @@ static void settle_latches(const uint8_t *cubes, size_t latches, size_t n, size_
     }
 }
 
-/* "the next state of each cube but the last lies inside the following cube, and that of the last inside cube j"; where it
- * does the lamps are judged. One pass a cube gives its next state and its lamps. */
+/* "the next state of each cube but the last lies inside the following cube, and that of the last inside cube j", which no cube
+ * is where j = n; or a constraint is 0 in it. Where it does lamps and bad states are judged. One pass a cube gives its next
+ * state, lamps and bad states; another is made only where a next state lies outside. */
 static bool closed(const chudravik_counts *counts, const uint16_t *table, const uint8_t *cubes, size_t n, size_t j,
                    uint8_t *verdict)
 {
@@ -548,12 +604,23 @@ static bool closed(const chudravik_counts *counts, const uint16_t *table, const 
     for (size_t k = 0; k < n; k++) {
         settle_cube(counts, table, cubes + k * length, values);
         store_next_cube(counts, table, values, next);
-        if (search(cubes + (k + 1 < n ? k + 1 : j) * length, length, 1, next) != 0) {
+        judge_watched(counts, table, values, k == 0, verdict);
+        size_t following = k + 1 < n ? k + 1 : j;
+        bool inside = following < n && search(cubes + following * length, length, 1, next) == 0;
+        if (!inside && !blocked(counts, table, next, values)) {
             return false;
         }
-        judge_lamps(counts, table, values, k == 0, verdict);
     }
     return true;
+}
+
+/* "in judge, cube 0 then need not be the resets" */
+static bool starts(const chudravik_counts *counts, const uint16_t *table, const uint8_t *cubes, size_t n)
+{
+    uint8_t values[VALUE_BYTES] = {CHUDRAVIK_LOW << 6};
+    uint8_t start[MOST_CUBE];
+    store_start(table, counts->latches, n == 0 ? ANY_MARK : CHUDRAVIK_MARK(cubes), start);
+    return (n > 0 && memcmp(cubes, start, cube_length(counts->latches)) == 0) || blocked(counts, table, start, values);
 }
 
 chudravik_judge_answer plain_judge(chudravik_counts counts, const uint16_t *table, size_t table_words,
@@ -564,26 +631,25 @@ chudravik_judge_answer plain_judge(chudravik_counts counts, const uint16_t *tabl
     if (number != CHUDRAVIK_ACCEPTED) {
         return (chudravik_judge_answer){number, 0};
     }
-    if (j >= n) {
+    uint8_t watched[MOST_VERDICT];
+    if (n == 0) {
+        all_never(watched_of(&counts), watched);
+    }
+    if (j > n || !starts(&counts, table, cubes, n) || !closed(&counts, table, cubes, n, j, watched)) {
         return (chudravik_judge_answer){CHUDRAVIK_NOT_A_CHAIN, 0};
     }
-    uint8_t start[MOST_CUBE], lamps[MOST_LAMP_RECORD];
-    store_start(table, counts.latches, CHUDRAVIK_MARK(cubes), start);
-    if (memcmp(cubes, start, cube_length(counts.latches)) != 0 || !closed(&counts, table, cubes, n, j, lamps)) {
-        return (chudravik_judge_answer){CHUDRAVIK_NOT_A_CHAIN, 0};
-    }
-    if (verdict_bytes < record_length(counts.lamps) || settled_bytes < record_length(counts.latches)) {
+    if (verdict_bytes < record_length(watched_of(&counts)) || settled_bytes < record_length(counts.latches)) {
         return (chudravik_judge_answer){CHUDRAVIK_TOO_SHORT, 0};
     }
-    memcpy(verdict, lamps, record_length(counts.lamps));
+    memcpy(verdict, watched, record_length(watched_of(&counts)));
     settle_latches(cubes, counts.latches, n, j, settled);
     return (chudravik_judge_answer){CHUDRAVIK_ACCEPTED, known_fields(settled, counts.latches)};
 }
 
 /* ---- the cover ---- */
 
-/* "the number of the first cube whose next state is not inside a single cube": n if each is, and then all lamps are
- * judged. One pass a cube gives its next state and its lamps. */
+/* "the number of the first cube whose next state is not inside a single cube", unless a constraint is 0 in it: n if there is
+ * none, and then all lamps and bad states are judged. One pass a cube gives its next state, lamps and bad states. */
 static size_t first_uncovered(const chudravik_counts *counts, const uint16_t *table, const uint8_t *cubes, size_t n,
                               uint8_t *verdict)
 {
@@ -593,10 +659,10 @@ static size_t first_uncovered(const chudravik_counts *counts, const uint16_t *ta
     for (size_t k = 0; k < n; k++) {
         settle_cube(counts, table, cubes + k * length, values);
         store_next_cube(counts, table, values, next);
-        if (search(cubes, length, n, next) == n) {
+        judge_watched(counts, table, values, k == 0, verdict);
+        if (search(cubes, length, n, next) == n && !blocked(counts, table, next, values)) {
             return k;
         }
-        judge_lamps(counts, table, values, k == 0, verdict);
     }
     return n;
 }
@@ -609,20 +675,24 @@ chudravik_cover_answer plain_cover(chudravik_counts counts, const uint16_t *tabl
     if (number != CHUDRAVIK_ACCEPTED) {
         return (chudravik_cover_answer){number, 0};
     }
+    uint8_t values[VALUE_BYTES] = {CHUDRAVIK_LOW << 6};
     uint8_t start[MOST_CUBE];
     store_start(table, counts.latches, ANY_MARK, start);
-    if (search(cubes, cube_length(counts.latches), n, start) == n) {
+    if (search(cubes, cube_length(counts.latches), n, start) == n && !blocked(&counts, table, start, values)) {
         return (chudravik_cover_answer){CHUDRAVIK_START_NOT_COVERED, 0};
     }
-    uint8_t lamps[MOST_LAMP_RECORD];
-    size_t cube = first_uncovered(&counts, table, cubes, n, lamps);
+    uint8_t watched[MOST_VERDICT];
+    if (n == 0) {
+        all_never(watched_of(&counts), watched);
+    }
+    size_t cube = first_uncovered(&counts, table, cubes, n, watched);
     if (cube < n) {
         return (chudravik_cover_answer){CHUDRAVIK_NEXT_NOT_COVERED, cube};
     }
-    if (verdict_bytes < record_length(counts.lamps)) {
+    if (verdict_bytes < record_length(watched_of(&counts))) {
         return (chudravik_cover_answer){CHUDRAVIK_TOO_SHORT, 0};
     }
-    memcpy(verdict, lamps, record_length(counts.lamps));
+    memcpy(verdict, watched, record_length(watched_of(&counts)));
     return (chudravik_cover_answer){CHUDRAVIK_ACCEPTED, 0};
 }
 
@@ -798,30 +868,35 @@ static size_t read_line(const uint8_t **at, const uint8_t *end, ending lines, si
     return 0;
 }
 
-/* "The file opens with the four bytes `aag` and a space, then M I L O A and a newline." */
+/* M I L O A B C J F, those that are left out being 0: "J or F not 0, or B or C over 64, is 3". */
+enum { FEWEST_COUNTS = 5, MOST_COUNTS = 9 };
+
+static uint32_t take_counts(const size_t *numbers, chudravik_counts *counts)
+{
+    *counts = (chudravik_counts){numbers[1], numbers[2], numbers[3], numbers[4], numbers[5], numbers[6]};
+    if (!counts_kept(counts) || numbers[7] != 0 || numbers[8] != 0 || numbers[0] != variables_of(counts)) {
+        return CHUDRAVIK_COUNTS;
+    }
+    return CHUDRAVIK_ACCEPTED;
+}
+
+/* "The file opens with the four bytes `aag` and a space", then the counts and a newline. */
 static uint32_t read_header(const uint8_t **at, const uint8_t *end, ending *lines, chudravik_counts *counts)
 {
-    size_t numbers[5], count;
+    size_t numbers[MOST_COUNTS] = {0}, count;
     if (end - *at < 4 || memcmp(*at, "aag ", 4) != 0) {
         return CHUDRAVIK_FIRST_LINE;
     }
     const uint8_t *first = *at + 4;
     *at = first;
     *lines = NEWLINE;
-    count = read_line(at, end, *lines, 5, numbers);
+    count = read_line(at, end, *lines, MOST_COUNTS, numbers);
     if (count == 0) { /* "Accept either ending; the first line decides" */
         *at = first;
         *lines = OFFICE_NEWLINE;
-        count = read_line(at, end, *lines, 5, numbers);
+        count = read_line(at, end, *lines, MOST_COUNTS, numbers);
     }
-    if (count != 5) {
-        return CHUDRAVIK_FIRST_LINE;
-    }
-    *counts = (chudravik_counts){numbers[1], numbers[2], numbers[3], numbers[4]};
-    if (!counts_kept(counts) || numbers[0] != variables_of(counts)) {
-        return CHUDRAVIK_COUNTS;
-    }
-    return CHUDRAVIK_ACCEPTED;
+    return count < FEWEST_COUNTS ? CHUDRAVIK_FIRST_LINE : take_counts(numbers, counts);
 }
 
 static uint32_t judge_input(const uint8_t **at, const uint8_t *end, ending lines, size_t own)
@@ -849,7 +924,8 @@ static uint32_t judge_latch(const uint8_t **at, const uint8_t *end, ending lines
     return count == 3 && numbers[2] > 1 && numbers[2] != own ? CHUDRAVIK_RESET : CHUDRAVIK_ACCEPTED;
 }
 
-static uint32_t judge_lamp(const uint8_t **at, const uint8_t *end, ending lines, size_t most)
+/* The line of a lamp, a bad state or a constraint. */
+static uint32_t judge_literal(const uint8_t **at, const uint8_t *end, ending lines, size_t most)
 {
     size_t numbers[1];
     if (read_line(at, end, lines, 1, numbers) != 1) {
@@ -891,8 +967,8 @@ static uint32_t judge_body(const uint8_t *at, const uint8_t *end, ending lines, 
     for (size_t i = 0; i < counts->latches && number == CHUDRAVIK_ACCEPTED; i++, own += 2) {
         number = judge_latch(&at, end, lines, own, most);
     }
-    for (size_t i = 0; i < counts->lamps && number == CHUDRAVIK_ACCEPTED; i++) {
-        number = judge_lamp(&at, end, lines, most);
+    for (size_t i = 0; i < literals_of(counts) && number == CHUDRAVIK_ACCEPTED; i++) {
+        number = judge_literal(&at, end, lines, most);
     }
     for (size_t i = 0; i < counts->gates && number == CHUDRAVIK_ACCEPTED; i++, own += 2) {
         number = judge_gate(&at, end, lines, own, most);
@@ -916,7 +992,7 @@ static void fill(const uint8_t *at, const uint8_t *end, ending lines, const chud
         *table++ = (uint16_t)numbers[1];
         *table++ = count < 3 ? 0 : numbers[2] > 1 ? CHUDRAVIK_NO_START : (uint16_t)numbers[2];
     }
-    for (size_t i = 0; i < counts->lamps; i++) {
+    for (size_t i = 0; i < literals_of(counts); i++) {
         read_line(&at, end, lines, 1, numbers);
         *table++ = (uint16_t)numbers[0];
     }
@@ -1006,11 +1082,24 @@ static uint8_t *put_number(uint8_t *at, size_t n, uint8_t behind)
     return at + length + 1;
 }
 
+/* "Writing gives B and C only up to the last one that is not 0": how many numbers the first line has. */
+static size_t counts_shown(const chudravik_counts *counts)
+{
+    return counts->constraints != 0 ? 7 : counts->bads != 0 ? 6 : 5;
+}
+
+static size_t header_length(const chudravik_counts *counts)
+{
+    size_t shown = counts_shown(counts);
+    return 4 + digits(variables_of(counts)) + digits(counts->inputs) + digits(counts->latches) + digits(counts->lamps) +
+           digits(counts->gates) + (shown > 5 ? digits(counts->bads) : 0) + (shown > 6 ? digits(counts->constraints) : 0) +
+           shown;
+}
+
 /* What the text takes: each number, and the byte behind it. */
 static size_t text_length(const chudravik_counts *counts, const uint16_t *table)
 {
-    size_t length = 4 + digits(variables_of(counts)) + digits(counts->inputs) + digits(counts->latches) +
-                    digits(counts->lamps) + digits(counts->gates) + 5;
+    size_t length = header_length(counts);
     size_t own = 2;
     for (size_t i = 0; i < counts->inputs; i++, own += 2) {
         length += digits(own) + 1;
@@ -1018,7 +1107,7 @@ static size_t text_length(const chudravik_counts *counts, const uint16_t *table)
     for (size_t i = 0; i < counts->latches; i++, own += 2, table += 2) {
         length += digits(own) + digits(table[0]) + 2 + (table[1] == 0 ? 0 : table[1] == 1 ? 2 : digits(own) + 1);
     }
-    for (size_t i = 0; i < counts->lamps; i++, table++) {
+    for (size_t i = 0; i < literals_of(counts); i++, table++) {
         length += digits(table[0]) + 1;
     }
     for (size_t i = 0; i < counts->gates; i++, own += 2, table += 2) {
@@ -1034,10 +1123,18 @@ static uint8_t *put_header(uint8_t *at, const chudravik_counts *counts)
     at = put_number(at, counts->inputs, ' ');
     at = put_number(at, counts->latches, ' ');
     at = put_number(at, counts->lamps, ' ');
-    return put_number(at, counts->gates, '\n');
+    at = put_number(at, counts->gates, ' ');
+    if (counts_shown(counts) > 5) {
+        at = put_number(at, counts->bads, ' ');
+    }
+    if (counts_shown(counts) > 6) {
+        at = put_number(at, counts->constraints, ' ');
+    }
+    at[-1] = '\n';
+    return at;
 }
 
-/* "one line for each input, latch, lamp and gate, in that order" */
+/* "one line for each input, latch, lamp and gate, in that order", bad states and constraints behind the lamps */
 static void put_body(uint8_t *restrict at, const chudravik_counts *counts, const uint16_t *restrict table)
 {
     size_t own = 2;
@@ -1053,7 +1150,7 @@ static void put_body(uint8_t *restrict at, const chudravik_counts *counts, const
             at = put_number(at, table[1] == 1 ? 1 : own, '\n');
         }
     }
-    for (size_t i = 0; i < counts->lamps; i++, table++) {
+    for (size_t i = 0; i < literals_of(counts); i++, table++) {
         at = put_number(at, table[0], '\n');
     }
     for (size_t i = 0; i < counts->gates; i++, own += 2, table += 2) {
@@ -1082,19 +1179,15 @@ chudravik_write_answer plain_write(chudravik_counts counts, const uint16_t *tabl
 
 static uint32_t read_binary_header(const uint8_t **at, const uint8_t *end, chudravik_counts *counts)
 {
-    size_t numbers[5];
+    size_t numbers[MOST_COUNTS] = {0};
     if (end - *at < 4 || memcmp(*at, "aig ", 4) != 0) {
         return CHUDRAVIK_FIRST_LINE;
     }
     *at += 4;
-    if (read_line(at, end, NEWLINE, 5, numbers) != 5) {
+    if (read_line(at, end, NEWLINE, MOST_COUNTS, numbers) < FEWEST_COUNTS) {
         return CHUDRAVIK_FIRST_LINE;
     }
-    *counts = (chudravik_counts){numbers[1], numbers[2], numbers[3], numbers[4]};
-    if (!counts_kept(counts) || numbers[0] != variables_of(counts)) {
-        return CHUDRAVIK_COUNTS;
-    }
-    return CHUDRAVIK_ACCEPTED;
+    return take_counts(numbers, counts);
 }
 
 static uint32_t judge_binary_latch(const uint8_t **at, const uint8_t *end, size_t own, size_t most)
@@ -1149,8 +1242,8 @@ static uint32_t judge_binary_body(const uint8_t *at, const uint8_t *end, const c
     for (size_t i = 0; i < counts->latches && number == CHUDRAVIK_ACCEPTED; i++, own += 2) {
         number = judge_binary_latch(&at, end, own, most);
     }
-    for (size_t i = 0; i < counts->lamps && number == CHUDRAVIK_ACCEPTED; i++) {
-        number = judge_lamp(&at, end, NEWLINE, most);
+    for (size_t i = 0; i < literals_of(counts) && number == CHUDRAVIK_ACCEPTED; i++) {
+        number = judge_literal(&at, end, NEWLINE, most);
     }
     for (size_t i = 0; i < counts->gates && number == CHUDRAVIK_ACCEPTED; i++, own += 2) {
         number = judge_binary_gate(&at, end, own);
@@ -1170,7 +1263,7 @@ static void fill_binary(const uint8_t *at, const uint8_t *end, const chudravik_c
         *table++ = (uint16_t)numbers[0];
         *table++ = count < 2 ? 0 : numbers[1] > 1 ? CHUDRAVIK_NO_START : (uint16_t)numbers[1];
     }
-    for (size_t i = 0; i < counts->lamps; i++) {
+    for (size_t i = 0; i < literals_of(counts); i++) {
         read_line(&at, end, NEWLINE, 1, numbers);
         *table++ = (uint16_t)numbers[0];
     }
@@ -1236,13 +1329,12 @@ static uint8_t *put_difference(uint8_t *at, size_t difference)
 
 static size_t binary_length(const chudravik_counts *counts, const uint16_t *table)
 {
-    size_t length = 4 + digits(variables_of(counts)) + digits(counts->inputs) + digits(counts->latches) +
-                    digits(counts->lamps) + digits(counts->gates) + 5;
+    size_t length = header_length(counts);
     size_t own = 2 * (1 + counts->inputs);
     for (size_t i = 0; i < counts->latches; i++, own += 2, table += 2) {
         length += digits(table[0]) + 1 + (table[1] == 0 ? 0 : table[1] == 1 ? 2 : digits(own) + 1);
     }
-    for (size_t i = 0; i < counts->lamps; i++, table++) {
+    for (size_t i = 0; i < literals_of(counts); i++, table++) {
         length += digits(table[0]) + 1;
     }
     for (size_t i = 0; i < counts->gates; i++, own += 2, table += 2) {
@@ -1262,7 +1354,7 @@ static void put_binary_body(uint8_t *restrict at, const chudravik_counts *counts
             at = put_number(at, table[1] == 1 ? 1 : own, '\n');
         }
     }
-    for (size_t i = 0; i < counts->lamps; i++, table++) {
+    for (size_t i = 0; i < literals_of(counts); i++, table++) {
         at = put_number(at, table[0], '\n');
     }
     for (size_t i = 0; i < counts->gates; i++, own += 2, table += 2) {

@@ -32,7 +32,7 @@ enum { INTERVAL = 16, CUBE_BYTES = 65536 };
 
 enum {
     LONGEST_INPUT = 1 << 20,
-    LONGEST_REPORT = 16384, /* ample: a first line, and at most 15 bytes for each of 64 lamps and 512 latches */
+    LONGEST_REPORT = 16384, /* ample: a first line, and at most 15 bytes for each of 64 lamps, 64 bad states and 512 latches */
     MOST_HEARD = 65536,     /* of what the program says; it is stopped beyond */
     MILLISECONDS_ALLOWED = 10000,
     NUMBERS = 17,       /* 0 and the document's refusals */
@@ -110,6 +110,8 @@ static struct {
     uint32_t number; /* 0: the run is closed */
     bool has_lamp[3]; /* with this verdict */
     bool has_settled;
+    bool has_bad;
+    bool has_ended;
 } due;
 
 static void say(const char *form, ...)
@@ -130,15 +132,24 @@ static void say_refusal(uint32_t number)
     say("refused %" PRIu32 "\n", number);
 }
 
+static const char *const WORDS[] = {
+    [CHUDRAVIK_UNKNOWN] = "open", [CHUDRAVIK_LOW] = "never", [CHUDRAVIK_HIGH] = "always"};
+
 static void say_lamps(const uint8_t *verdict, size_t lamps)
 {
-    static const char *const words[] = {
-        [CHUDRAVIK_UNKNOWN] = "open", [CHUDRAVIK_LOW] = "never", [CHUDRAVIK_HIGH] = "always"};
     for (size_t i = 0; i < lamps; i++) {
         unsigned field = CHUDRAVIK_FIELD(verdict, i);
         due.has_lamp[field] = true;
-        say("lamp %zu %s\n", i, words[field]);
+        say("lamp %zu %s\n", i, WORDS[field]);
     }
+}
+
+/* "bad states follow the lamps as `bad`, number, verdict" */
+static void say_bads(const uint8_t *verdict, chudravik_counts counts)
+{
+    due.has_bad = counts.bads > 0;
+    for (size_t i = 0; i < counts.bads; i++)
+        say("bad %zu %s\n", i, WORDS[CHUDRAVIK_FIELD(verdict, counts.lamps + i)]);
 }
 
 static void say_latches(const uint8_t *settled, size_t latches)
@@ -154,7 +165,7 @@ static void say_latches(const uint8_t *settled, size_t latches)
 static void say_run(chudravik_counts counts, const uint16_t *table, size_t words)
 {
     static uint8_t cubes[CUBE_BYTES];
-    uint8_t verdict[CHUDRAVIK_RECORD_BYTES(CHUDRAVIK_MOST_LAMPS)];
+    uint8_t verdict[CHUDRAVIK_MOST_VERDICT_BYTES];
     uint8_t settled[CHUDRAVIK_RECORD_BYTES(CHUDRAVIK_MOST_LATCHES)];
     chudravik_chain_answer chain = simulate_chain(counts, table, words, INTERVAL, cubes, sizeof cubes);
     if (chain.number != CHUDRAVIK_ACCEPTED) {
@@ -167,8 +178,13 @@ static void say_run(chudravik_counts counts, const uint16_t *table, size_t words
         fputs("reports: the simulator refuses its own chain\n", stderr);
         exit(2);
     }
-    say("cubes %zu back %zu settled %zu\n", chain.cubes, chain.back, judge.settled);
+    due.has_ended = chain.back == chain.cubes;
+    if (due.has_ended) /* "The report's first line is then `cubes`, n and `ended`" */
+        say("cubes %zu ended\n", chain.cubes);
+    else
+        say("cubes %zu back %zu settled %zu\n", chain.cubes, chain.back, judge.settled);
     say_lamps(verdict, counts.lamps);
+    say_bads(verdict, counts);
     say_latches(settled, counts.latches);
 }
 
@@ -270,7 +286,7 @@ static struct {
     size_t starts, pieces;
     int64_t longest;
     size_t fixed[NUMBERS], random[NUMBERS];
-    size_t with_lamp[3], with_settled;
+    size_t with_lamp[3], with_settled, with_bad, with_end;
 } tally;
 
 static int64_t milliseconds(void)
@@ -500,6 +516,8 @@ static void count_input(size_t *numbers)
     for (size_t field = 0; field < 3; field++)
         tally.with_lamp[field] += due.has_lamp[field];
     tally.with_settled += due.has_settled;
+    tally.with_bad += due.has_bad;
+    tally.with_end += due.has_ended;
 }
 
 /* The input in hand, in every way or in one. */
@@ -542,13 +560,16 @@ static void set_latch(circuit *c, size_t i, size_t next, size_t reset)
     c->word[2 * i + 1] = (uint16_t)reset;
 }
 
-static void make_lamps_and_gates(circuit *c)
+/* Bad states are literals as lamps are. A constraint is any literal, or where it must not be 0 a switch, which is X. */
+static void make_lamps_and_gates(circuit *c, bool constraints_kept)
 {
-    size_t literals = gate_literal(c, c->counts.gates);
+    size_t literals = gate_literal(c, c->counts.gates), watched = c->counts.lamps + c->counts.bads;
     uint16_t *lamp = c->word + 2 * c->counts.latches;
-    uint16_t *operand = lamp + c->counts.lamps;
-    for (size_t i = 0; i < c->counts.lamps; i++)
+    uint16_t *operand = lamp + watched + c->counts.constraints;
+    for (size_t i = 0; i < watched; i++)
         lamp[i] = (uint16_t)(chance(15) ? below(2) : below(literals));
+    for (size_t i = 0; i < c->counts.constraints; i++)
+        lamp[watched + i] = (uint16_t)(constraints_kept ? 2 + below(2 * c->counts.inputs) : below(literals));
     for (size_t i = 0; i < 2 * c->counts.gates; i++)
         operand[i] = (uint16_t)below(gate_literal(c, i / 2));
 }
@@ -571,11 +592,13 @@ static void make_small_circuit(void)
     c.counts.latches = between(0, 14);
     c.counts.lamps = chance(10) ? 0 : between(1, 9);
     c.counts.gates = between(0, 40);
+    c.counts.bads = chance(40) ? between(1, 5) : 0;
+    c.counts.constraints = chance(40) ? between(1, 2) : 0;
     for (size_t i = 0; i < c.counts.latches; i++) {
         size_t next = below(gate_literal(&c, c.counts.gates));
         set_latch(&c, i, next, below(2));
     }
-    make_lamps_and_gates(&c);
+    make_lamps_and_gates(&c, false);
     set_input_to_circuit(&c);
     name_input("a small random circuit");
 }
@@ -590,7 +613,7 @@ static void make_row(size_t row)
 {
     static circuit c;
     c.counts = (chudravik_counts){CHUDRAVIK_MOST_INPUTS, CHUDRAVIK_MOST_LATCHES, CHUDRAVIK_MOST_LAMPS,
-                                  CHUDRAVIK_MOST_GATES};
+                                  CHUDRAVIK_MOST_GATES,  CHUDRAVIK_MOST_BADS,    CHUDRAVIK_MOST_CONSTRAINTS};
     size_t reset = below(2);
     set_latch(&c, 0, 1 - reset, reset);
     for (size_t i = 1; i < row; i++) {
@@ -600,7 +623,7 @@ static void make_row(size_t row)
     }
     for (size_t i = row; i < CHUDRAVIK_MOST_LATCHES; i++)
         set_latch(&c, i, latch_literal(&c, i), below(2));
-    make_lamps_and_gates(&c);
+    make_lamps_and_gates(&c, true);
     set_input_to_circuit(&c);
     name_input("the ceilings with a row of %zu latches", row);
 }
@@ -881,8 +904,10 @@ static void make_random_input(size_t turn)
 
 static const char REPORT_ON_S[] = "cubes 2 back 0 settled 0\nlamp 0 never\nlatch 0 -\nlatch 1 -\n";
 
-/* The document's, with its `/` for byte 10; then one each for 3, 4, 5 and 9, which none of those gets; and a latch that
- * toggles, without a lamp and with one. */
+/* The document's, with its `/` for byte 10; then one each for 3, 4, 5 and 9, which none of those gets; a latch that toggles,
+ * without a lamp and with one; S with a bad state, and under constraints: one that it keeps, one that is 0 at the start, and
+ * one that is 0 after a tick; bad states alone, constraints alone, first lines of eight, nine and ten numbers, B = 65, J and F
+ * that are not 0; and a switch that is assumed to be on, which ends nothing. */
 static const char *const BENCH[] = {
     "aag 1 0 1 1 0/2 3/2/",
     "aag 3 1 1 1 1/2/4 7/4/6 3 5/",
@@ -900,6 +925,19 @@ static const char *const BENCH[] = {
     "aag 1 1 0 0 0/2/2/",
     "aag 1 0 1 0 0/2 3/",
     "aag 1 0 1 1 0/2 3/0/",
+    "aag 3 0 2 1 1 1/2 4/4 2 1/6/2/6 4 2/",
+    "aag 3 0 2 1 1 0 1/2 4/4 2 1/6/7/6 4 2/",
+    "aag 3 0 2 1 1 1 1/2 4/4 2 1/6/2/2/6 4 2/",
+    "aag 3 0 2 1 1 1 1/2 4/4 2 1/6/2/3/6 4 2/",
+    "aag 3 0 2 0 1 2/2 4/4 2 1/6/7/6 4 2/",
+    "aag 1 0 1 0 0 0 1/2 3/2/",
+    "aag 1 0 1 1 0 0 0 0/2 3/2/",
+    "aag 1 0 1 1 0 0 0 0 0/2 3/2/",
+    "aag 1 0 1 1 0 0 0 0 0 0/2 3/2/",
+    "aag 1 0 1 1 0 65/2 3/2/",
+    "aag 1 0 1 1 0 0 0 1/2 3/2/",
+    "aag 1 0 1 1 0 0 0 0 1/2 3/2/",
+    "aag 2 1 1 1 0 0 1/2/4 2/4/2/",
 };
 
 static void take_bench(const char *text)
@@ -980,9 +1018,10 @@ static void print_tally(void)
     for (size_t number = 0; number < NUMBERS; number++)
         if (tally.fixed[number] + tally.random[number] != 0)
             printf("  number %2zu: %5zu fixed, %6zu random\n", number, tally.fixed[number], tally.random[number]);
-    printf("  reports with a lamp never: %zu, always: %zu, open: %zu; with a settled latch: %zu\n",
+    printf("  reports with a lamp never: %zu, always: %zu, open: %zu; with a settled latch: %zu; with bad states: %zu; "
+           "ended: %zu\n",
            tally.with_lamp[CHUDRAVIK_LOW], tally.with_lamp[CHUDRAVIK_HIGH], tally.with_lamp[CHUDRAVIK_UNKNOWN],
-           tally.with_settled);
+           tally.with_settled, tally.with_bad, tally.with_end);
 }
 
 /* Judged by the random inputs alone, since the fixed ones are there to meet them. */

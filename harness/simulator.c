@@ -14,6 +14,9 @@ enum {
     LATCHES_CEILING = 512,
     LAMPS_CEILING = 64,
     GATES_CEILING = 3327,
+    BADS_CEILING = 64,
+    CONSTRAINTS_CEILING = 64,
+    WATCHED_CEILING = LAMPS_CEILING + BADS_CEILING,
     VARIABLES_CEILING = 4095,
     TEXT_CEILING = 60000,
     INTERVAL_CEILING = 1000,
@@ -32,9 +35,11 @@ typedef struct {
 } gate;
 
 typedef struct {
-    size_t inputs, latches, lamps, gates;
+    size_t inputs, latches, lamps, gates, bads, constraints;
     latch latch[LATCHES_CEILING];
     size_t lamp[LAMPS_CEILING];
+    size_t bad[BADS_CEILING];
+    size_t constraint[CONSTRAINTS_CEILING];
     gate gate[GATES_CEILING];
 } circuit;
 
@@ -51,7 +56,7 @@ static void *must(void *memory)
 static bool within_ceilings(chudravik_counts counts)
 {
     return counts.inputs <= INPUTS_CEILING && counts.latches <= LATCHES_CEILING && counts.lamps <= LAMPS_CEILING &&
-           counts.gates <= GATES_CEILING;
+           counts.gates <= GATES_CEILING && counts.bads <= BADS_CEILING && counts.constraints <= CONSTRAINTS_CEILING;
 }
 
 static void set_counts(circuit *c, chudravik_counts counts)
@@ -60,6 +65,8 @@ static void set_counts(circuit *c, chudravik_counts counts)
     c->latches = counts.latches;
     c->lamps = counts.lamps;
     c->gates = counts.gates;
+    c->bads = counts.bads;
+    c->constraints = counts.constraints;
 }
 
 static size_t variables(const circuit *c)
@@ -89,7 +96,7 @@ static size_t own_of_gate(const circuit *c, size_t i)
 
 static size_t table_length(const circuit *c)
 {
-    return 2 * c->latches + c->lamps + 2 * c->gates;
+    return 2 * c->latches + c->lamps + c->bads + c->constraints + 2 * c->gates;
 }
 
 /* Request 1: a latch without a start value repeats its own literal, and is kept in the table as 2. */
@@ -106,7 +113,7 @@ static uint32_t judge_latch(const circuit *c, latch l)
     return l.next > top_literal(c) ? 6 : l.reset > NO_START_VALUE ? 8 : 0;
 }
 
-static uint32_t judge_lamp(const circuit *c, size_t literal)
+static uint32_t judge_literal(const circuit *c, size_t literal)
 {
     return literal > top_literal(c) ? 6 : 0;
 }
@@ -126,6 +133,10 @@ static void to_table(const circuit *c, uint16_t *word)
     }
     for (size_t i = 0; i < c->lamps; i++)
         *word++ = (uint16_t)c->lamp[i];
+    for (size_t i = 0; i < c->bads; i++)
+        *word++ = (uint16_t)c->bad[i];
+    for (size_t i = 0; i < c->constraints; i++)
+        *word++ = (uint16_t)c->constraint[i];
     for (size_t i = 0; i < c->gates; i++) {
         *word++ = (uint16_t)c->gate[i].left;
         *word++ = (uint16_t)c->gate[i].right;
@@ -138,6 +149,10 @@ static void from_table(circuit *c, const uint16_t *word)
         c->latch[i] = (latch){word[0], word[1]};
     for (size_t i = 0; i < c->lamps; i++)
         c->lamp[i] = *word++;
+    for (size_t i = 0; i < c->bads; i++)
+        c->bad[i] = *word++;
+    for (size_t i = 0; i < c->constraints; i++)
+        c->constraint[i] = *word++;
     for (size_t i = 0; i < c->gates; i++, word += 2)
         c->gate[i] = (gate){word[0], word[1]};
 }
@@ -148,7 +163,13 @@ static bool sound(const circuit *c)
         if (judge_latch(c, c->latch[i]) != 0)
             return false;
     for (size_t i = 0; i < c->lamps; i++)
-        if (judge_lamp(c, c->lamp[i]) != 0)
+        if (judge_literal(c, c->lamp[i]) != 0)
+            return false;
+    for (size_t i = 0; i < c->bads; i++)
+        if (judge_literal(c, c->bad[i]) != 0)
+            return false;
+    for (size_t i = 0; i < c->constraints; i++)
+        if (judge_literal(c, c->constraint[i]) != 0)
             return false;
     for (size_t i = 0; i < c->gates; i++)
         if (judge_gate(c, i, c->gate[i]) != 0)
@@ -168,17 +189,17 @@ static uint32_t take_circuit(circuit *c, chudravik_counts counts, const uint16_t
     return sound(c) ? 0 : 11;
 }
 
-/* Where lamps are judged, now or later: 16, no lamps, directly after 3. */
+/* Where lamps are judged, now or later: 16, "O + B is 0", directly after 3. */
 static uint32_t take_board(circuit *c, chudravik_counts counts, const uint16_t *table, size_t table_words)
 {
-    if (within_ceilings(counts) && counts.lamps == 0)
+    if (within_ceilings(counts) && counts.lamps + counts.bads == 0)
         return 16;
     return take_circuit(c, counts, table, table_words);
 }
 
 /* ---- text: read ---- */
 
-enum { NUMBERS_KEPT = 5 };
+enum { NUMBERS_KEPT = 9 };
 
 typedef struct {
     bool formed;  /* numbers with one space between, and an ending behind */
@@ -276,12 +297,13 @@ static const line *due_line(reading *r, size_t least, size_t most)
 
 static uint32_t read_first_line(reading *r, circuit *c)
 {
-    const line *first = due_line(r, 5, 5);
+    const line *first = due_line(r, 5, 9);
     if (first == NULL)
         return 2;
-    const size_t *n = first->number;
-    chudravik_counts counts = {.inputs = n[1], .latches = n[2], .lamps = n[3], .gates = n[4]};
-    if (!within_ceilings(counts))
+    const size_t *n = first->number; /* M I L O A B C J F; those left out are 0 */
+    chudravik_counts counts = {
+        .inputs = n[1], .latches = n[2], .lamps = n[3], .gates = n[4], .bads = n[5], .constraints = n[6]};
+    if (!within_ceilings(counts) || n[7] != 0 || n[8] != 0)
         return 3;
     set_counts(c, counts);
     return n[0] == variables(c) ? 0 : 3;
@@ -306,13 +328,14 @@ static uint32_t read_latch(reading *r, circuit *c, size_t i)
     return judge_latch(c, c->latch[i]);
 }
 
-static uint32_t read_lamp(reading *r, circuit *c, size_t i)
+/* The line of a lamp, a bad state or a constraint. */
+static uint32_t read_literal(reading *r, const circuit *c, size_t *literal)
 {
     const line *due = due_line(r, 1, 1);
     if (due == NULL)
         return 4;
-    c->lamp[i] = due->number[0];
-    return judge_lamp(c, c->lamp[i]);
+    *literal = due->number[0];
+    return judge_literal(c, *literal);
 }
 
 static uint32_t read_gate(reading *r, circuit *c, size_t i)
@@ -334,7 +357,11 @@ static uint32_t read_body(reading *r, circuit *c)
     for (size_t i = 0; i < c->latches && refusal == 0; i++)
         refusal = read_latch(r, c, i);
     for (size_t i = 0; i < c->lamps && refusal == 0; i++)
-        refusal = read_lamp(r, c, i);
+        refusal = read_literal(r, c, &c->lamp[i]);
+    for (size_t i = 0; i < c->bads && refusal == 0; i++)
+        refusal = read_literal(r, c, &c->bad[i]);
+    for (size_t i = 0; i < c->constraints && refusal == 0; i++)
+        refusal = read_literal(r, c, &c->constraint[i]);
     for (size_t i = 0; i < c->gates && refusal == 0; i++)
         refusal = read_gate(r, c, i);
     return refusal;
@@ -380,7 +407,7 @@ static chudravik_read_answer answer_read(uint32_t refusal, const circuit *c, uin
     if (refusal != 0)
         return (chudravik_read_answer){.number = refusal};
     to_table(c, table);
-    return (chudravik_read_answer){0, {c->inputs, c->latches, c->lamps, c->gates}};
+    return (chudravik_read_answer){0, {c->inputs, c->latches, c->lamps, c->gates, c->bads, c->constraints}};
 }
 
 chudravik_read_answer simulate_read(const uint8_t *text, size_t text_bytes, uint16_t *table, size_t table_words)
@@ -396,10 +423,12 @@ static bool constant(size_t literal)
     return literal / 2 == 0;
 }
 
-/* Request 12: "at most 4 switches, 8 latches, 8 lamps, 32 gates; no constant literal; no gate fed twice by one variable". */
+/* Request 12: "at most 4 switches, 8 latches, 8 lamps, 32 gates, no constant literal, no gate fed twice by one variable, B and C
+ * both 0". */
 static bool is_for_beginners(const circuit *c)
 {
     bool rules = c->inputs <= 4 && c->latches <= 8 && c->lamps <= 8 && c->gates <= 32;
+    rules = rules && c->bads == 0 && c->constraints == 0;
     for (size_t i = 0; i < c->latches; i++)
         rules = rules && !constant(c->latch[i].next);
     for (size_t i = 0; i < c->lamps; i++)
@@ -436,9 +465,20 @@ static void put(written *out, const char *form, ...)
     va_end(numbers);
 }
 
+/* "B and C only up to the last one that is not 0, and never J or F" */
+static void put_first_line(written *out, const circuit *c)
+{
+    put(out, "aag %zu %zu %zu %zu %zu", variables(c), c->inputs, c->latches, c->lamps, c->gates);
+    if (c->bads != 0 || c->constraints != 0)
+        put(out, " %zu", c->bads);
+    if (c->constraints != 0)
+        put(out, " %zu", c->constraints);
+    put(out, "\n");
+}
+
 static void put_circuit(written *out, const circuit *c)
 {
-    put(out, "aag %zu %zu %zu %zu %zu\n", variables(c), c->inputs, c->latches, c->lamps, c->gates);
+    put_first_line(out, c);
     for (size_t i = 0; i < c->inputs; i++)
         put(out, "%zu\n", own_of_input(i));
     for (size_t i = 0; i < c->latches; i++) {
@@ -449,6 +489,10 @@ static void put_circuit(written *out, const circuit *c)
     }
     for (size_t i = 0; i < c->lamps; i++)
         put(out, "%zu\n", c->lamp[i]);
+    for (size_t i = 0; i < c->bads; i++)
+        put(out, "%zu\n", c->bad[i]);
+    for (size_t i = 0; i < c->constraints; i++)
+        put(out, "%zu\n", c->constraint[i]);
     for (size_t i = 0; i < c->gates; i++)
         put(out, "%zu %zu %zu\n", own_of_gate(c, i), c->gate[i].left, c->gate[i].right);
 }
@@ -549,20 +593,45 @@ static value ask(asking *a, size_t literal)
     return literal % 2 == 1 ? (value)-a->known[variable] : a->known[variable];
 }
 
-static void tick(const circuit *c, const value *state, const value *switches, value *next, value *lamps)
+static void begin_asking(asking *a)
+{
+    memset(a->known, NOT_ASKED, 1 + variables(a->circuit));
+    a->known[0] = KNOWN_0;
+}
+
+/* What is watched of a circuit: its lamps, and behind them its bad states (request 9). */
+static size_t watched_count(const circuit *c)
+{
+    return c->lamps + c->bads;
+}
+
+static void tick(const circuit *c, const value *state, const value *switches, value *next, value *watched)
 {
     asking a = {.circuit = c, .state = state, .switches = switches};
-    memset(a.known, NOT_ASKED, 1 + variables(c));
-    a.known[0] = KNOWN_0;
+    begin_asking(&a);
     for (size_t i = 0; i < c->lamps; i++)
-        lamps[i] = ask(&a, c->lamp[i]);
+        watched[i] = ask(&a, c->lamp[i]);
+    for (size_t i = 0; i < c->bads; i++)
+        watched[c->lamps + i] = ask(&a, c->bad[i]);
     for (size_t i = 0; i < c->latches; i++)
         next[i] = ask(&a, c->latch[i].next);
 }
 
+/* Request 9: whether some constraint is 0, all switches X. X is not 0. */
+static bool blocked(const circuit *c, const value *state)
+{
+    static const value switches[INPUTS_CEILING];
+    asking a = {.circuit = c, .state = state, .switches = switches};
+    bool low = false;
+    begin_asking(&a);
+    for (size_t i = 0; i < c->constraints; i++)
+        low = low || ask(&a, c->constraint[i]) == KNOWN_0;
+    return low;
+}
+
 static void tick_records(const circuit *c, const uint8_t *state, const uint8_t *switches, uint8_t *next, uint8_t *lamps)
 {
-    value from[LATCHES_CEILING], set[INPUTS_CEILING], to[LATCHES_CEILING], lit[LAMPS_CEILING];
+    value from[LATCHES_CEILING], set[INPUTS_CEILING], to[LATCHES_CEILING], lit[WATCHED_CEILING];
     unpack(state, from, c->latches);
     unpack(switches, set, c->inputs);
     tick(c, from, set, to, lit);
@@ -629,6 +698,7 @@ typedef struct {
     size_t count; /* of cubes */
     size_t space;
     bool held[LATCHES_CEILING];
+    bool ended; /* request 9: some constraint is 0 in what would be the next cube */
 } chain;
 
 static value *cube(const chain *run, size_t k)
@@ -662,22 +732,31 @@ static void start(chain *run)
 {
     value resets[LATCHES_CEILING];
     set_resets(run->circuit, resets);
-    add_cube(run, resets);
+    run->ended = blocked(run->circuit, resets);
+    if (!run->ended)
+        add_cube(run, resets);
 }
 
-/* The next state and the lamps of a cube, all switches X. */
-static void follow_cube(const chain *run, size_t k, value *next, value *lamps)
+static bool start_is_blocked(const circuit *c)
+{
+    value resets[LATCHES_CEILING];
+    set_resets(c, resets);
+    return blocked(c, resets);
+}
+
+/* The next state of a cube, and its lamps and bad states, all switches X. */
+static void follow_cube(const chain *run, size_t k, value *next, value *watched)
 {
     value switches[INPUTS_CEILING];
     memset(switches, UNKNOWN, sizeof switches);
-    tick(run->circuit, cube(run, k), switches, next, lamps);
+    tick(run->circuit, cube(run, k), switches, next, watched);
 }
 
 /* Step 1, from the last cube. */
 static void follow(const chain *run, value *b)
 {
-    value lamps[LAMPS_CEILING];
-    follow_cube(run, run->count - 1, b, lamps);
+    value watched[WATCHED_CEILING];
+    follow_cube(run, run->count - 1, b, watched);
     for (size_t i = 0; i < run->circuit->latches; i++)
         if (run->held[i])
             b[i] = UNKNOWN;
@@ -717,20 +796,23 @@ static void widen(chain *run, value *b)
         }
 }
 
-/* The cube that the run goes back to, or the count of cubes where there was no room to close. */
+/* The cube that the run goes back to, or the count of cubes where it has ended or there was no room to close. "If some
+ * constraint is 0 in cube 0, or in b before the search, the run ends with the n cubes stored so far and returns j = n". */
 static size_t run_on(chain *run, size_t w, size_t room)
 {
     start(run);
-    for (;;) {
+    while (!run->ended) {
         value b[LATCHES_CEILING];
         follow(run, b);
-        size_t j = search(run, b);
-        if (j < run->count || run->count == room)
+        run->ended = blocked(run->circuit, b);
+        size_t j = run->ended ? run->count : search(run, b);
+        if (run->ended || j < run->count || run->count == room)
             return j;
         if (due_for_widening(run->count, w))
             widen(run, b);
         add_cube(run, b);
     }
+    return 0;
 }
 
 static chudravik_chain_answer run_circuit(const circuit *c, size_t w, uint8_t *cubes, size_t room)
@@ -739,7 +821,8 @@ static chudravik_chain_answer run_circuit(const circuit *c, size_t w, uint8_t *c
     size_t j = run_on(&run, w, room);
     for (size_t k = 0; k < run.count; k++)
         pack_cube(c, due_for_widening(k, w) ? WIDENED : PLAIN, cube(&run, k), cubes + k * cube_length(c));
-    chudravik_chain_answer answer = {.number = j < run.count ? 0 : 15, .cubes = run.count, .back = j < run.count ? j : 0};
+    bool full = j == run.count && !run.ended;
+    chudravik_chain_answer answer = {.number = full ? 15 : 0, .cubes = run.count, .back = full ? 0 : j};
     free(run.field);
     return answer;
 }
@@ -811,13 +894,15 @@ static value shared(value one, value other)
     return one == other ? one : UNKNOWN;
 }
 
-static void judge_lamps(const chain *sent, value *verdict)
+/* Lamps, then bad states. "With n = 0 each verdict is never." */
+static void judge_watched(const chain *sent, value *verdict)
 {
-    value b[LATCHES_CEILING], lamps[LAMPS_CEILING];
+    value b[LATCHES_CEILING], watched[WATCHED_CEILING];
+    memset(verdict, KNOWN_0, watched_count(sent->circuit));
     for (size_t k = 0; k < sent->count; k++) {
-        follow_cube(sent, k, b, lamps);
-        for (size_t i = 0; i < sent->circuit->lamps; i++)
-            verdict[i] = k == 0 ? lamps[i] : shared(verdict[i], lamps[i]);
+        follow_cube(sent, k, b, watched);
+        for (size_t i = 0; i < watched_count(sent->circuit); i++)
+            verdict[i] = k == 0 ? watched[i] : shared(verdict[i], watched[i]);
     }
 }
 
@@ -830,29 +915,38 @@ static bool starts_with_resets(const chain *sent)
     return memcmp(resets, cube(sent, 0), sent->circuit->latches) == 0;
 }
 
-static bool next_lies_inside(const chain *sent, size_t k, size_t other)
+/* "a start or next state in which a constraint is 0 needs no cover"; there is no cube n to lie inside of. */
+static bool goes_on_inside(const chain *sent, size_t k, size_t other)
 {
-    value b[LATCHES_CEILING], lamps[LAMPS_CEILING];
-    follow_cube(sent, k, b, lamps);
-    return subsumes(cube(sent, other), b, sent->circuit->latches);
+    value b[LATCHES_CEILING], watched[WATCHED_CEILING];
+    follow_cube(sent, k, b, watched);
+    if (blocked(sent->circuit, b))
+        return true;
+    return other < sent->count && subsumes(cube(sent, other), b, sent->circuit->latches);
 }
 
 /* "j is below n, cube 0 is the resets, the next state of each cube but the last lies inside the following cube, and that
- * of the last inside cube j" */
-static bool is_closed_chain(const chain *sent, size_t j)
+ * of the last inside cube j"; "j = n only where a constraint is 0 in the next state of the last cube, or in the start if n is
+ * 0, and the rest of its chain holds" */
+static bool is_chain(const chain *sent, size_t j)
 {
-    if (j >= sent->count || !starts_with_resets(sent))
+    if (sent->count == 0)
+        return j == 0 && start_is_blocked(sent->circuit);
+    if (j > sent->count || !(start_is_blocked(sent->circuit) || starts_with_resets(sent)))
         return false;
     for (size_t k = 0; k + 1 < sent->count; k++)
-        if (!next_lies_inside(sent, k, k + 1))
+        if (!goes_on_inside(sent, k, k + 1))
             return false;
-    return next_lies_inside(sent, sent->count - 1, j);
+    return goes_on_inside(sent, sent->count - 1, j);
 }
 
+/* "An ended run settles nothing." */
 static void settle(const chain *sent, size_t j, value *settled)
 {
     size_t latches = sent->circuit->latches;
-    memcpy(settled, cube(sent, j), latches);
+    memset(settled, UNKNOWN, latches);
+    if (j < sent->count)
+        memcpy(settled, cube(sent, j), latches);
     for (size_t k = j + 1; k < sent->count; k++)
         for (size_t i = 0; i < latches; i++)
             settled[i] = shared(settled[i], cube(sent, k)[i]);
@@ -870,13 +964,13 @@ static chudravik_judge_answer judge_chain(const chain *sent, size_t j, uint8_t *
                                           uint8_t *settled, size_t settled_bytes)
 {
     const circuit *c = sent->circuit;
-    if (!is_closed_chain(sent, j))
+    if (!is_chain(sent, j))
         return (chudravik_judge_answer){.number = 19};
-    if (verdict_bytes < record_length(c->lamps) || settled_bytes < record_length(c->latches))
+    if (verdict_bytes < record_length(watched_count(c)) || settled_bytes < record_length(c->latches))
         return (chudravik_judge_answer){.number = 10};
-    value lamps[LAMPS_CEILING], kept[LATCHES_CEILING];
-    judge_lamps(sent, lamps);
-    pack(lamps, c->lamps, verdict);
+    value watched[WATCHED_CEILING], kept[LATCHES_CEILING];
+    judge_watched(sent, watched);
+    pack(watched, watched_count(c), verdict);
     settle(sent, j, kept);
     pack(kept, c->latches, settled);
     return (chudravik_judge_answer){0, known_fields(kept, c->latches)};
@@ -905,21 +999,26 @@ static bool lies_inside(const chain *sent, const value *b)
     return search(sent, b) < sent->count;
 }
 
-static bool start_lies_inside(const chain *sent)
+static bool is_covered(const chain *sent, const value *b)
+{
+    return blocked(sent->circuit, b) || lies_inside(sent, b);
+}
+
+static bool start_is_covered(const chain *sent)
 {
     value resets[LATCHES_CEILING];
     set_resets(sent->circuit, resets);
-    return lies_inside(sent, resets);
+    return is_covered(sent, resets);
 }
 
-/* The first cube whose next state, all switches X, is not inside a single cube, or the count of cubes. */
+/* The first cube whose next state, all switches X, needs cover and is not inside a single cube, or the count of cubes. */
 static size_t first_that_leaves(const chain *sent)
 {
-    value b[LATCHES_CEILING], lamps[LAMPS_CEILING];
+    value b[LATCHES_CEILING], watched[WATCHED_CEILING];
     size_t k = 0;
     for (; k < sent->count; k++) {
-        follow_cube(sent, k, b, lamps);
-        if (!lies_inside(sent, b))
+        follow_cube(sent, k, b, watched);
+        if (!is_covered(sent, b))
             break;
     }
     return k;
@@ -928,16 +1027,16 @@ static size_t first_that_leaves(const chain *sent)
 static chudravik_cover_answer judge_cover(const chain *sent, uint8_t *verdict, size_t verdict_bytes)
 {
     const circuit *c = sent->circuit;
-    if (!start_lies_inside(sent))
+    if (!start_is_covered(sent))
         return (chudravik_cover_answer){.number = 17};
     size_t leaves = first_that_leaves(sent);
     if (leaves < sent->count)
         return (chudravik_cover_answer){18, leaves};
-    if (verdict_bytes < record_length(c->lamps))
+    if (verdict_bytes < record_length(watched_count(c)))
         return (chudravik_cover_answer){.number = 10};
-    value lamps[LAMPS_CEILING];
-    judge_lamps(sent, lamps);
-    pack(lamps, c->lamps, verdict);
+    value watched[WATCHED_CEILING];
+    judge_watched(sent, watched);
+    pack(watched, watched_count(c), verdict);
     return (chudravik_cover_answer){0};
 }
 
@@ -981,8 +1080,7 @@ static bool explain(const circuit *c, size_t lamp, value *state)
     static const value switches[INPUTS_CEILING];
     bool reached[1 + VARIABLES_CEILING] = {false};
     asking a = {.circuit = c, .state = state, .switches = switches};
-    memset(a.known, NOT_ASKED, sizeof a.known);
-    a.known[0] = KNOWN_0;
+    begin_asking(&a);
     if (ask(&a, lamp) == UNKNOWN)
         return false;
     follow_down(c, &a, lamp, reached);

@@ -22,8 +22,8 @@ static uint8_t stack[STACK];
 static ucontext_t here, there;
 
 static const chudravik_counts LARGEST = {CHUDRAVIK_MOST_INPUTS, CHUDRAVIK_MOST_LATCHES, CHUDRAVIK_MOST_LAMPS,
-                                         CHUDRAVIK_MOST_GATES};
-static const chudravik_counts LARGEST_BOARD = {4, 8, 8, 32};
+                                         CHUDRAVIK_MOST_GATES,  CHUDRAVIK_MOST_BADS,    CHUDRAVIK_MOST_CONSTRAINTS};
+static const chudravik_counts LARGEST_BOARD = {4, 8, 8, 32, 0, 0};
 static const chudravik_counts SMALLEST = {.lamps = 1};
 static chudravik_counts counts;
 static uint16_t table[CHUDRAVIK_MOST_TABLE_WORDS];
@@ -35,6 +35,7 @@ static uint8_t cubes[CHUDRAVIK_MOST_CUBE_BYTES];
 static uint8_t latches[CHUDRAVIK_RECORD_BYTES(CHUDRAVIK_MOST_LATCHES)];
 static uint8_t switches[CHUDRAVIK_RECORD_BYTES(CHUDRAVIK_MOST_INPUTS)];
 static uint8_t lamps[CHUDRAVIK_RECORD_BYTES(CHUDRAVIK_MOST_LAMPS)];
+static uint8_t verdict[CHUDRAVIK_MOST_VERDICT_BYTES];
 static uint8_t settled[CHUDRAVIK_RECORD_BYTES(CHUDRAVIK_MOST_LATCHES)];
 static uint16_t renumbered[CHUDRAVIK_MOST_LIST_WORDS];
 static uint32_t number;
@@ -102,14 +103,14 @@ static void call_chain(void)
 /* The cubes that the chain left. */
 static void call_judge(void)
 {
-    number = chudravik_judge(counts, table, CHUDRAVIK_MOST_TABLE_WORDS, cubes, sizeof cubes, stored, back, lamps,
-                             sizeof lamps, settled, sizeof settled)
+    number = chudravik_judge(counts, table, CHUDRAVIK_MOST_TABLE_WORDS, cubes, sizeof cubes, stored, back, verdict,
+                             sizeof verdict, settled, sizeof settled)
                  .number;
 }
 
 static void call_cover(void)
 {
-    number = chudravik_cover(counts, table, CHUDRAVIK_MOST_TABLE_WORDS, cubes, sizeof cubes, stored, lamps, sizeof lamps)
+    number = chudravik_cover(counts, table, CHUDRAVIK_MOST_TABLE_WORDS, cubes, sizeof cubes, stored, verdict, sizeof verdict)
                  .number;
 }
 
@@ -123,7 +124,14 @@ static void call_merge(void)
     number = chudravik_merge(counts.latches, latches, sizeof latches, latches, sizeof latches, settled, sizeof settled);
 }
 
-/* A shift register with gates on its way: the chain goes through many cubes, and closes. */
+/* Where the lamps, bad states and constraints end and the gates begin. */
+static size_t gates_at(void)
+{
+    return 2 * counts.latches + counts.lamps + counts.bads + counts.constraints;
+}
+
+/* A shift register with gates on its way: the chain goes through many cubes, and closes. Constraints are that a switch is on,
+ * which is X. */
 static void make_circuit(void)
 {
     size_t first_latch = 2 * (1 + counts.inputs), first_gate = first_latch + 2 * counts.latches;
@@ -131,10 +139,12 @@ static void make_circuit(void)
         table[2 * i] = (uint16_t)(i == 0 ? 2 : first_latch + 2 * (i - 1));
         table[2 * i + 1] = i % 2;
     }
-    for (size_t i = 0; i < counts.lamps; i++)
+    for (size_t i = 0; i < counts.lamps + counts.bads; i++)
         table[2 * counts.latches + i] = (uint16_t)(first_gate + 2 * (counts.gates - 1 - i));
+    for (size_t i = 0; i < counts.constraints; i++)
+        table[gates_at() - 1 - i] = 2;
     for (size_t i = 0; i < counts.gates; i++) {
-        size_t at = 2 * counts.latches + counts.lamps + 2 * i;
+        size_t at = gates_at() + 2 * i;
         table[at] = (uint16_t)(first_gate + 2 * i - 1);
         table[at + 1] = (uint16_t)(first_latch + 2 * (i % counts.latches));
     }
@@ -147,7 +157,7 @@ static void make_deep_circuit(size_t inverted, size_t place)
     size_t first_latch = 2 * (1 + counts.inputs), first_gate = first_latch + 2 * counts.latches;
     memset(table, 0, sizeof table);
     for (size_t i = 0; i < counts.gates; i++) {
-        size_t at = 2 * counts.latches + counts.lamps + 2 * i;
+        size_t at = gates_at() + 2 * i;
         table[at + place] = (uint16_t)((i == 0 ? first_latch : first_gate + 2 * (i - 1)) + inverted);
         table[at + 1 - place] = 1;
     }
@@ -212,6 +222,21 @@ static int accepted(const char *what)
            measured(MERGE, what, CHUDRAVIK_ACCEPTED);
 }
 
+/* The largest circuit with a constraint that is 0 in every state: its chain has no cube, and any cubes are a chain. */
+static int has_ended(void)
+{
+    static const char what[] = "under a constraint that never holds";
+    size_t last = gates_at() - 1;
+    uint16_t kept = table[last];
+    int passed;
+    table[last] = 0;
+    passed = measured(JUDGE, what, CHUDRAVIK_ACCEPTED) & measured(COVER, what, CHUDRAVIK_ACCEPTED) &
+             measured(CHAIN, what, CHUDRAVIK_ACCEPTED) & measured(JUDGE, what, CHUDRAVIK_ACCEPTED) &
+             measured(COVER, what, CHUDRAVIK_ACCEPTED);
+    table[last] = kept;
+    return passed;
+}
+
 static int refused(const char *what)
 {
     int passed;
@@ -224,6 +249,7 @@ static int refused(const char *what)
     latches[sizeof latches - 1] = 0;
     back = stored;
     passed &= measured(JUDGE, what, CHUDRAVIK_NOT_A_CHAIN);
+    passed &= has_ended();
     table[CHUDRAVIK_MOST_TABLE_WORDS - 1] = UINT16_MAX;
     passed &= measured(WRITE, what, CHUDRAVIK_TABLE) & measured(WRITE_BINARY, what, CHUDRAVIK_TABLE) &
               measured(CHAIN, what, CHUDRAVIK_TABLE) &
@@ -257,7 +283,7 @@ static int for_beginners(void)
     make_circuit();
     passed = measured(WRITE, what, CHUDRAVIK_ACCEPTED) & measured(READ_BEGINNERS, what, CHUDRAVIK_ACCEPTED) &
              measured(CHAIN_BEGINNERS, what, CHUDRAVIK_ACCEPTED);
-    table[CHUDRAVIK_TABLE_WORDS(counts.latches, counts.lamps, counts.gates) - 1] = 1;
+    table[CHUDRAVIK_TABLE_WORDS(counts) - 1] = 1;
     return passed & measured(WRITE, what, CHUDRAVIK_ACCEPTED) & measured(READ_BEGINNERS, what, CHUDRAVIK_BEGINNERS) &
            measured(CHAIN_BEGINNERS, what, CHUDRAVIK_BEGINNERS);
 }

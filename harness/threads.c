@@ -48,7 +48,7 @@ static size_t take_string(worker *w)
 }
 
 /* Two latches that swap, and a lamp that is lit when both are 1. Constant, so that writing to it would be seen. */
-static const chudravik_counts shared_counts = {0, 2, 1, 1};
+static const chudravik_counts shared_counts = {0, 2, 1, 1, 0, 0};
 static const uint16_t shared_table[] = {4, 0, 2, 1, 6, 4, 2};
 
 static void run_shared(worker *w)

@@ -338,6 +338,8 @@ static bool same_answers(twice *t)
            same_number(t, "L", l->counts.latches, s->counts.latches) &&
            same_number(t, "O", l->counts.lamps, s->counts.lamps) &&
            same_number(t, "A", l->counts.gates, s->counts.gates) &&
+           same_number(t, "B", l->counts.bads, s->counts.bads) &&
+           same_number(t, "C", l->counts.constraints, s->counts.constraints) &&
            same_number(t, "M", l->variables, s->variables) && same_number(t, "bytes", l->bytes, s->bytes) &&
            same_number(t, "n", l->cubes, s->cubes) && same_number(t, "j", l->back, s->back) &&
            same_number(t, "s", l->settled, s->settled) && same_number(t, "cube", l->cube, s->cube);
@@ -406,9 +408,10 @@ static void show_buffer(const char *name, const lent *l)
 
 void twice_show(const twice *t)
 {
-    fprintf(stderr, "  call %s, I %zu, L %zu, O %zu, A %zu, w %zu, n %zu, j %zu, lamp %zu, fields %zu\n",
-            call_names[t->call], t->counts.inputs, t->counts.latches, t->counts.lamps, t->counts.gates, t->with.w,
-            t->with.n, t->with.j, t->with.lamp, t->with.fields);
+    const chudravik_counts *c = &t->counts;
+    fprintf(stderr, "  call %s, I %zu, L %zu, O %zu, A %zu, B %zu, C %zu, w %zu, n %zu, j %zu, lamp %zu, fields %zu\n",
+            call_names[t->call], c->inputs, c->latches, c->lamps, c->gates, c->bads, c->constraints, t->with.w, t->with.n,
+            t->with.j, t->with.lamp, t->with.fields);
     for (size_t role = 0; role < ROLES; role++)
         if (t->lent[role].used)
             show_buffer(role_names[role], &t->lent[role]);

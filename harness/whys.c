@@ -66,7 +66,7 @@ int main(int count, char **words)
         return refuse(chain.number);
     if (lamp >= read.counts.lamps)
         return refuse(23);
-    uint8_t verdict[CHUDRAVIK_RECORD_BYTES(CHUDRAVIK_MOST_LAMPS)], settled[LONGEST_RECORD];
+    uint8_t verdict[CHUDRAVIK_MOST_VERDICT_BYTES], settled[LONGEST_RECORD];
     simulate_judge(read.counts, table, CHUDRAVIK_MOST_TABLE_WORDS, cubes, sizeof cubes, chain.cubes, chain.back, verdict,
                    sizeof verdict, settled, sizeof settled);
     unsigned field = CHUDRAVIK_FIELD(verdict, lamp);

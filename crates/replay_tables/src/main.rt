@@ -1,12 +1,12 @@
 // Replays a stored list of vectors through the public calls that are given a table, or records: each line of the list
 // gives one line, what the call answered and what it left in each buffer that it was lent.
 //
-//   tick I L O A WORDS w.. STATE b.. SWITCHES b.. NEXT LAMPS   the table, two records; the lengths of the results
-//   chain I L O A WORDS w.. W CUBES                            the table; the interval; the length of the cubes' buffer
-//   chainbeginners I L O A WORDS w.. CUBES                     the table; the length of the cubes' buffer
-//   judge I L O A WORDS w.. CUBES b.. N J VERDICT SETTLED      the table, the cubes, n, j; the lengths of the results
-//   cover I L O A WORDS w.. CUBES b.. N VERDICT                the table, the cubes, their number; the result's length
-//   why I L O A WORDS w.. STATE b.. LAMP WHY                   the table, the state, the lamp's number; the result's length
+//   tick COUNTS WORDS w.. STATE b.. SWITCHES b.. NEXT LAMPS   the table, two records; the lengths of the results
+//   chain COUNTS WORDS w.. W CUBES                            the table; the interval; the length of the cubes' buffer
+//   chainbeginners COUNTS WORDS w.. CUBES                     the table; the length of the cubes' buffer
+//   judge COUNTS WORDS w.. CUBES b.. N J VERDICT SETTLED      the table, the cubes, n, j; the lengths of the results
+//   cover COUNTS WORDS w.. CUBES b.. N VERDICT                the table, the cubes, their number; the result's length
+//   why COUNTS WORDS w.. STATE b.. LAMP WHY                   the table, the state, the lamp's number; the result's length
 //   merge FIELDS A b.. B b.. MERGED                            the count of fields, two records; the result's length
 //
 // Crate vectors says the rest.

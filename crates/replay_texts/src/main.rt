@@ -5,8 +5,8 @@
 //   readbinary WORDS BYTES TEXT           as `read`, for the binary form
 //   readbeginners WORDS BYTES TEXT        as `read`, for beginners' boards
 //   any TABLEWORDS LISTWORDS BYTES TEXT   a table and a list of so many words; the text as above
-//   write I L O A WORDS w.. BYTES         the table; a text buffer of BYTES bytes
-//   writebinary I L O A WORDS w.. BYTES   as `write`, for the binary form
+//   write COUNTS WORDS w.. BYTES         the table; a text buffer of BYTES bytes
+//   writebinary COUNTS WORDS w.. BYTES   as `write`, for the binary form
 //
 // In TEXT `/` stands for byte 10, and `\hh` for any byte; what goes beyond BYTES is cut. Crate vectors says the rest.
 use circuit::Counts;

@@ -89,7 +89,7 @@ pub fn words_within(words: usize, buffer: &[u16]) -> usize
     }
 }
 
-// The counts, and where the line goes on.
+// The counts, I L O A B C, and where the line goes on.
 pub struct CountsAt {
     pub counts: Counts,
     pub behind: Cursor,
@@ -100,15 +100,19 @@ pub fn counts_at(line: &[u8], at: usize) -> CountsAt {
     let latches = parts::next(line, inputs);
     let lamps = parts::next(line, latches);
     let gates = parts::next(line, lamps);
+    let bads = parts::next(line, gates);
+    let constraints = parts::next(line, bads);
     let counts = Counts {
         inputs: inputs.value,
         latches: latches.value,
         lamps: lamps.value,
         gates: gates.value,
+        bads: bads.value,
+        constraints: constraints.value,
     };
     CountsAt {
         counts: counts,
-        behind: gates,
+        behind: constraints,
     }
 }
 
@@ -152,4 +156,6 @@ pub fn say_counts(counts: Counts) {
     say_number(b" L ", counts.latches);
     say_number(b" O ", counts.lamps);
     say_number(b" A ", counts.gates);
+    say_number(b" B ", counts.bads);
+    say_number(b" C ", counts.constraints);
 }
