@@ -39,7 +39,7 @@ fn header_refusal(first: ReadLine) -> u32
 
 // The answer: the number of a refusal, or 0 with the counts, and M.
 #[repr(C)]
-#[derive(Drop)]
+#[derive(Clone, Copy)]
 pub struct ReadAnyAnswer {
     pub number: u32,
     pub counts: Counts,

@@ -51,7 +51,7 @@ fn say_five(bytes: &[u8]) {
 }
 
 // What came of a text, its chain and its judgement: the number is that of the first call that refuses.
-#[derive(Drop)]
+#[derive(Clone, Copy)]
 struct RunAnswer {
     number: u32,
     cubes: usize,

@@ -20,7 +20,7 @@ use reader::{Judged, Judgement, MOST_TEXT, Place, ReadAnswer};
 use text::{LAMP_LINE, LATCH_LINE};
 
 // A difference at a position, and the position behind it.
-#[derive(Drop)]
+#[derive(Clone, Copy)]
 enum ReadDifference {
     Value(usize, usize),
     NoDifference,
@@ -51,7 +51,7 @@ fn difference(text: &[u8], at: usize) -> ReadDifference
 }
 
 // The two differences of a gate, and the position behind them.
-#[derive(Drop)]
+#[derive(Clone, Copy)]
 enum ReadGate {
     Both(usize, usize, usize),
     NoGate,
@@ -73,7 +73,7 @@ fn gate_differences(text: &[u8], at: usize) -> ReadGate
 }
 
 // The refusal of a gate, 0 for none; and where it is 0 the operands, larger first, and the position behind the gate.
-#[derive(Drop)]
+#[derive(Clone, Copy)]
 struct GateRow {
     number: u32,
     left: usize,

@@ -34,7 +34,7 @@ fn put_difference(text: &mut [u8], at: usize, n: usize) -> usize
 }
 
 // The own literal minus the larger operand, and the larger minus the smaller.
-#[derive(Drop)]
+#[derive(Clone, Copy)]
 struct GateDifferences {
     first: usize,
     second: usize,

@@ -67,7 +67,7 @@ fn mark(d: bool) -> u8
 }
 
 // How many cubes are stored, which latches are held unknown, and the latches of the last cube as a record.
-#[derive(Drop)]
+#[derive(Clone, Copy)]
 pub struct Progress {
     pub count: usize,
     pub held: [u8; LONGEST_CUBE],
@@ -116,7 +116,7 @@ fn goes_to(
 }
 
 // Stopped with `count` cubes, closed back to number `back` or, where that is `count`, ended; or no room for a cube more.
-#[derive(Drop)]
+#[derive(Clone, Copy)]
 pub struct Chain {
     pub stopped: bool,
     pub count: usize,

@@ -5,7 +5,7 @@ ghost use Rattle.circuit.specs.RulesInCode.{Bounded};
 
 // I, L, O, A, B and C.
 #[repr(C)]
-#[derive(Drop)]
+#[derive(Clone, Copy)]
 pub struct Counts {
     pub inputs: usize,
     pub latches: usize,

@@ -2,7 +2,7 @@
 
 // The call chain answers n and j.
 #[repr(C)]
-#[derive(Drop)]
+#[derive(Clone, Copy)]
 pub struct ChainAnswer {
     pub number: u32,
     pub cubes: usize,
@@ -11,7 +11,7 @@ pub struct ChainAnswer {
 
 // The call judge answers s, the number of settled latches.
 #[repr(C)]
-#[derive(Drop)]
+#[derive(Clone, Copy)]
 pub struct JudgeAnswer {
     pub number: u32,
     pub settled: usize,

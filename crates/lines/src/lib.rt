@@ -7,21 +7,21 @@ ghost use Rattle.lines.specs.LinesInCode.{most_numbers, from, leading, NumberFou
 ghost use Rattle.text.specs.Part.{ill};
 
 // A number at a position, and the position behind it.
-#[derive(Drop)]
+#[derive(Clone, Copy)]
 pub enum ReadNumber {
     Value(usize, usize),
     NoNumber,
 }
 
 // What ends the lines of a text.
-#[derive(Drop)]
+#[derive(Clone, Copy)]
 pub enum Ending {
     Newline,
     OfficeNewline,
 }
 
 // A number with what stands behind it, the line's ending or a space.
-#[derive(Drop)]
+#[derive(Clone, Copy)]
 pub enum InLine {
     Last(usize, usize),
     More(usize, usize),
@@ -35,7 +35,7 @@ pub const MOST_NUMBERS: usize = 9;
 pub const BODY_NUMBERS: usize = 3;
 
 // The numbers of a line, none where it is ill-formed, and the position behind it.
-#[derive(Drop)]
+#[derive(Clone, Copy)]
 pub struct ReadLine {
     pub count: usize,
     pub numbers: [usize; MOST_NUMBERS],

@@ -97,7 +97,7 @@ fn keep_own(kind: u8, found: ReadLine, owns: &mut [u32], line: usize) -> usize
 }
 
 // A refusal of lines, 0 for none; the position behind them, and the places behind what they gave.
-#[derive(Drop)]
+#[derive(Clone, Copy)]
 pub struct Progress {
     pub number: u32,
     pub at: usize,

@@ -192,7 +192,7 @@ pub fn line_refusal(kind: u8, own: usize, most: usize, found: ReadLine) -> u32
 }
 
 // A refusal of lines, 0 for none, and the position behind them.
-#[derive(Drop)]
+#[derive(Clone, Copy)]
 pub struct Judged {
     pub number: u32,
     pub next: usize,
@@ -298,7 +298,7 @@ fn judge_body(text: &[u8], at: usize, ending: Ending, counts: Counts) -> Judged
 }
 
 // The first refusal of 1 to 9; or what the first line says, and where a body starts that nothing refuses.
-#[derive(Drop)]
+#[derive(Clone, Copy)]
 pub enum Judgement {
     Refused(u32),
     Body(Counts, usize),
@@ -328,7 +328,7 @@ pub fn judge(text: &[u8], ending: Ending, first: ReadLine) -> Judgement
 }
 
 // Where the second pass stands: in the text and in the table.
-#[derive(Drop)]
+#[derive(Clone, Copy)]
 pub struct Place {
     pub at: usize,
     pub word: usize,
@@ -404,7 +404,7 @@ pub fn fill(text: &[u8], at: usize, ending: Ending, counts: Counts, table: &mut 
 
 // The answer of the reader: the number of a refusal, or 0 with the counts.
 #[repr(C)]
-#[derive(Drop)]
+#[derive(Clone, Copy)]
 pub struct ReadAnswer {
     pub number: u32,
     pub counts: Counts,

@@ -65,7 +65,7 @@ fn tick_lent(
 }
 
 // What a tick is given, by its length.
-#[derive(Drop)]
+#[derive(Clone, Copy)]
 struct TickGiven {
     words: usize,
     state: usize,
@@ -135,7 +135,7 @@ fn tick_vector(line: &[u8], name: &[u8]) {
 
 // ---- chain, chainbeginners
 
-#[derive(Drop)]
+#[derive(Clone, Copy)]
 enum Chaining {
     Widened(usize),
     Beginners,
@@ -235,7 +235,7 @@ fn show_judge(
 }
 
 // What the judge is given and lent, by its length, and the numbers.
-#[derive(Drop)]
+#[derive(Clone, Copy)]
 struct JudgeGiven {
     words: usize,
     cubes: usize,
@@ -320,7 +320,7 @@ fn show_cover(
 }
 
 // What a cover is given and lent, by its length, and the number of cubes.
-#[derive(Drop)]
+#[derive(Clone, Copy)]
 struct CoverGiven {
     words: usize,
     cubes: usize,
@@ -379,7 +379,7 @@ fn show_why(name: &[u8], counts: Counts, table: &[u16], state: &[u8], lamp: usiz
 }
 
 // What is given and lent, by its length, and the lamp's number.
-#[derive(Drop)]
+#[derive(Clone, Copy)]
 struct WhyGiven {
     words: usize,
     state: usize,
@@ -438,7 +438,7 @@ fn show_merge(name: &[u8], fields: usize, a: &[u8], b: &[u8], merged: &mut [u8])
 }
 
 // What is given and lent, by its length, and the count of fields.
-#[derive(Drop)]
+#[derive(Clone, Copy)]
 struct MergeGiven {
     fields: usize,
     a: usize,

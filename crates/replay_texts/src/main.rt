@@ -20,7 +20,7 @@ use writer::WriteAnswer;
 
 // ---- read, readbinary, readbeginners
 
-#[derive(Drop)]
+#[derive(Clone, Copy)]
 enum Reading {
     Plain,
     Binary,
@@ -117,7 +117,7 @@ fn any_vector(line: &[u8], name: &[u8]) {
 
 // ---- write, writebinary
 
-#[derive(Drop)]
+#[derive(Clone, Copy)]
 enum Writing {
     Plain,
     Binary,

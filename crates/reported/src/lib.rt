@@ -56,7 +56,7 @@ fn put_opening(out: &mut [u8], n: usize, j: usize, s: usize) -> usize
 }
 
 // What the two calls answer where they refuse nothing.
-#[derive(Drop)]
+#[derive(Clone, Copy)]
 struct Stopped {
     cubes: usize,
     back: usize,

@@ -27,7 +27,7 @@ pub fn put_refusal(out: &mut [u8], number: u32) -> usize
 }
 
 // What was taken of standard input; a read that failed is no end of the text.
-#[derive(Drop)]
+#[derive(Clone, Copy)]
 pub struct Taken {
     pub bytes: usize,
     pub failed: bool,

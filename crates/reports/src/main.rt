@@ -45,7 +45,7 @@ fn add_sizes(stream: &[u8], at: usize, texts: usize) -> ReadNumber
 
 // How many texts there are, and the positions of the first size and of the first text; none where the sizes are no numbers or do not
 // add up to what follows them.
-#[derive(Drop)]
+#[derive(Clone, Copy)]
 struct Frame {
     framed: bool,
     texts: usize,
@@ -87,7 +87,7 @@ fn find_frame(stream: &[u8]) -> Frame
 }
 
 // A report in the buffer: how many bytes it has, and the positions of the next size and of the next text.
-#[derive(Drop)]
+#[derive(Clone, Copy)]
 struct Next {
     bytes: usize,
     sizes: usize,
@@ -127,7 +127,7 @@ fn complain(why: &[u8]) {
 }
 
 // Prints the report on the next text; the positions of those behind it, and whether it was written.
-#[derive(Drop)]
+#[derive(Clone, Copy)]
 struct Printed {
     written: bool,
     sizes: usize,

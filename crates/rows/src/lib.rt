@@ -8,7 +8,7 @@ ghost use Rattle.rows.specs.Rows.{item, said, verdict_said, row as rowText, rows
 ghost use Rattle.text.specs.Decimal.{decimal};
 
 // What a line of the report is about.
-#[derive(Drop)]
+#[derive(Clone, Copy)]
 pub enum Row {
     Lamp,
     Bad,

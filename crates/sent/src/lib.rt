@@ -97,7 +97,7 @@ fn first_uncovered(
 
 // The cube is the one that 18 names, and 0 with any other number.
 #[repr(C)]
-#[derive(Drop)]
+#[derive(Clone, Copy)]
 pub struct CoverAnswer {
     pub number: u32,
     pub cube: usize,

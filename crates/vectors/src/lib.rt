@@ -89,7 +89,7 @@ pub fn words_within(words: usize, buffer: &[u16]) -> usize
 }
 
 // The counts, I L O A B C, and where the line goes on.
-#[derive(Drop)]
+#[derive(Clone, Copy)]
 pub struct CountsAt {
     pub counts: Counts,
     pub behind: Cursor,
@@ -117,7 +117,7 @@ pub fn counts_at(line: &[u8], at: usize) -> CountsAt {
 }
 
 // The counts, the length of the table, whose words go into the table that is lent, and where the line goes on.
-#[derive(Drop)]
+#[derive(Clone, Copy)]
 pub struct CircuitAt {
     pub counts: Counts,
     pub words: usize,

@@ -3,7 +3,7 @@ ghost use Rattle.std.specs.Prelude.{◌≤◌, ◌<◌, length};
 
 // Where a line is read on, and the number in front of that place. Once something was not as it must be it is not well,
 // and stays so: only the last place of a line has to be asked.
-#[derive(Drop)]
+#[derive(Clone, Copy)]
 pub struct Cursor {
     pub well: bool,
     pub value: usize,

@@ -73,7 +73,7 @@ fn group_end(
 }
 
 // A line in the buffer: how many bytes it has, and the cube after its last.
-#[derive(Drop)]
+#[derive(Clone, Copy)]
 struct Group {
     bytes: usize,
     next: usize,
@@ -103,7 +103,7 @@ fn put_group(
 }
 
 // The first line in the buffer: how many bytes it has, and of how many cubes lines follow.
-#[derive(Drop)]
+#[derive(Clone, Copy)]
 struct Begun {
     bytes: usize,
     counts: Counts,
@@ -252,7 +252,7 @@ fn print_why(text: &[u8], lamp: usize) {
 }
 
 // The lamp that the argument names, where it is a number and nothing else.
-#[derive(Drop)]
+#[derive(Clone, Copy)]
 struct Asked {
     lamp: usize,
     given: bool,

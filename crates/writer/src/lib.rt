@@ -26,7 +26,7 @@ fn put_magic(text: &mut [u8], magic: &[u8; 4]) -> usize
 }
 
 // A line's first number, 0, 1 or 2 more, and how many words of the table belong to it.
-#[derive(Drop)]
+#[derive(Clone, Copy)]
 pub struct LineNumbers {
     pub more: usize,
     pub first: usize,
@@ -327,7 +327,7 @@ fn text_length(counts: Counts, table: &[u16]) -> usize
 
 // The writer's number, and the count of bytes written.
 #[repr(C)]
-#[derive(Drop)]
+#[derive(Clone, Copy)]
 pub struct WriteAnswer {
     pub number: u32,
     pub bytes: usize,
