@@ -37,6 +37,7 @@ def read(path):
 
 
 def snake(name):
+    name = re.sub(r"(?<![A-Za-z])getD(?![A-Za-z])", "get_or", name)
     name = re.sub(r"(?<=[a-z0-9₀₁₂])([A-Z])", lambda m: "_" + m.group(1).lower(), name)
     return re.sub(r"(?<=[^-])-(?=[^-])", "_", name)
 

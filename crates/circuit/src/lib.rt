@@ -1,4 +1,6 @@
 // The counts of a circuit and their ceilings; specs and proofs: the circuit, its table of words, and their laws (specification, 3).
+#![tactic(auto)]
+
 ghost use Rattle.std.specs.Prelude.{◌≡◌};
 ghost use Rattle.circuit.specs.Table.{literals as literal_lines, literals_at, gates_at, verdicts as verdictCount, constraints_at};
 ghost use Rattle.circuit.specs.RulesInCode.{Bounded};

@@ -1,4 +1,6 @@
 // The public judge: verdict, settled record and s of a chain, closed or ended (specification, 5.12).
+#![tactic(auto)]
+
 ghost use Rattle.std.specs.Prelude.{◌≡◌, true, ◌+◌, ◌*◌, ◌-◌, ◌<◌, ◌≤◌, ltb, length, drop};
 ghost use Rattle.three.specs.Lists.{over};
 ghost use Rattle.three.specs.Cube.{known_fields};

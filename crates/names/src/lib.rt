@@ -1,4 +1,6 @@
 // The new numbers of a drawing, and its table (specification, 4.13).
+#![tactic(auto)]
+
 ghost use Rattle.std.specs.Prelude.{◌≡◌, ℕ, ◌+◌, ◌*◌, ◌<◌, ◌≤◌, length, get_or};
 ghost use Rattle.circuit.specs.Table.{variables, table_length};
 ghost use Rattle.three.specs.Lists.{tabulate, over};

@@ -1,4 +1,6 @@
 // One pass over the gates, through a working table of values (specification, 3.3).
+#![tactic(auto)]
+
 ghost use Rattle.std.specs.Prelude.{◌≡◌, ◌++◌, ◌+◌, ◌*◌, ◌<◌, ◌≤◌, length, get_or, set, take};
 ghost use Rattle.std.proofs.Math.Seq.{paste};
 ghost use Rattle.three.specs.Lists.{every, over};

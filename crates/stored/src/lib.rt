@@ -1,4 +1,6 @@
 // Cubes in a buffer: cube 0, the next state of a stored cube, constraints, the search (specification, 5.1 to 5.3).
+#![tactic(auto)]
+
 ghost use Rattle.std.specs.Prelude.{◌≡◌, suc, ◌+◌, ◌*◌, ◌-◌, ◌<◌, ◌≤◌, length, get_or, drop, replicate};
 ghost use Rattle.std.proofs.Math.Seq.{paste};
 ghost use Rattle.three.specs.Lists.{every, first, over};

@@ -9,7 +9,7 @@ use lib.Dec.{leb, eqb}
 use lib.ListN.{length, get_or, drop, get_or-eq_default}
 use lib.Seq.{drop_at}
 use Rattle.three.specs.Lists.{tabulate}
-use Rattle.three.proofs.Lists.{and_parts, by_test, tabulate_get_d}
+use Rattle.three.proofs.Lists.{and_parts, by_test, tabulate_get_or}
 use Rattle.circuit.specs.RulesInCode.{Passed}
 use Rattle.circuit.specs.Table.{Kind, input, latch, literal, gate, width, row_tests, literal_tests, operand_tests}
 use Rattle.text.specs.Text.{fits, owns, words, line_tests, reset_word, shown}
@@ -89,7 +89,7 @@ seen m d (gate_line {own = own}) p = record { shape = omega (arith, leb-true); p
 
 -- a list is its items
 pub listed : (n : ℕ) (ns : List ℕ) → length ns ≡ n → ns ≡ tabulate n (λ i. get_or ns i 0)
-listed n ns h = sym (rw (← h) (tabulate_get_d ns 0))
+listed n ns h = sym (rw (← h) (tabulate_get_or ns 0))
 
 pub spelled : (k : Kind) (ns ws : List ℕ) → fits k (length ns) ≡ true → owns k ns ≡ true → Spelled ws k (words k ns ++ ws) ns
 unfolding fits owns words tabulate

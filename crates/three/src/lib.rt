@@ -1,4 +1,6 @@
 // Values 0, 1 and X, and records of two-bit fields (specification, 2). A value is its two bits: 0 unknown, 1 low, 2 high.
+#![tactic(auto)]
+
 ghost use Rattle.std.specs.Prelude.{◌≡◌, ◌*◌, ◌<◌, ◌≤◌, length, set};
 ghost use Rattle.three.specs.Lists.{over};
 ghost use Rattle.three.specs.Value.{code, decode, both};

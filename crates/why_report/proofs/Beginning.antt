@@ -9,7 +9,7 @@ use lib.ListN.{length, get_or, replicate}
 use Rattle.three.specs.Value.{unknown, code, decode}
 use Rattle.three.specs.Cube.{Cube, alike}
 use Rattle.three.specs.Record.{pair_at, unpack}
-use Rattle.three.proofs.Lists.{get_d_tabulate}
+use Rattle.three.proofs.Lists.{get_or_tabulate}
 use Rattle.circuit.specs.declared.Counts.{Counts}
 use Rattle.circuit.specs.Circuit.{Circuit}
 use Rattle.circuit.specs.Refusal.{refusal}
@@ -53,7 +53,7 @@ module _ (counts : Counts) (table cubes : List ℕ) (n j : ℕ) (judgeable : Jud
     unfolding unpack verdict_fields judged_in cubes_in
     verdict_as =
         ap decode f
-        ∙ sym (get_d_tabulate (verdicts counts) (λ i. decode (pair_at verdict' i)) lamp unknown (omega (arith, is_lamp)))
+        ∙ sym (get_or_tabulate (verdicts counts) (λ i. decode (pair_at verdict' i)) lamp unknown (omega (arith, is_lamp)))
         ∙ ap (λ (fields : Cube). get_or fields lamp unknown) (verdict_is own q verdict' settled' judged (judged.answers ∙ sym (judgeable.judged verdict₀ settled₀ v s)))
 
     module _ {out out' : List ℕ} {r : ℕ} (put : Put out 0 (row Row.Lamp lamp (decode field)) out' r × (r ≤ length out)) where

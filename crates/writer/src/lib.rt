@@ -1,4 +1,6 @@
 // The writer of a circuit's text (specification, 4.10). Every `put` answers the position behind the bytes that it writes.
+#![tactic(auto)]
+
 ghost use Rattle.std.specs.Prelude.{◌≡◌, ℕ, ◌≤◌, ◌<◌, ◌+◌, ◌*◌, length, ◌++◌, [], ◌∷◌};
 ghost use Rattle.circuit.specs.RulesInCode.{Bounded};
 ghost use Rattle.circuit.specs.Table.{width};

@@ -10,7 +10,7 @@ use Rattle.three.specs.Record.{bytes_for, byte_at, pack, unpack}
 use Rattle.three.specs.RecordInCode.{IsRecord}
 use Rattle.three.proofs.Loops.{Stored, stored_first}
 use Rattle.three.proofs.Filling.{fill_next, fill_last}
-use Rattle.three.proofs.Pack.{length_unpack, get_d_pack}
+use Rattle.three.proofs.Pack.{length_unpack, get_or_pack}
 use Rattle.three.proofs.Merge.{length_merged}
 use Rattle.three.proofs.Bytewise.{and_record}
 use Rattle.merging.proofs.store_common.Statement.{statement}
@@ -21,7 +21,7 @@ sized f a b = length_merged _ _ ∙ length_unpack f a
 
 byte : (f : ℕ) (a b : List ℕ) (k : ℕ) → k < bytes_for f → IsRecord f a → IsRecord f b → ((i : ℕ) → get_or a i 0 < 256) → ((i : ℕ) → get_or b i 0 < 256)
     → bit_and (get_or a k 0) (get_or b k 0) ≡ byte_at (merged (unpack f a) (unpack f b)) k
-byte f a b k h ra rb small_a small_b = and_record f k h a b ra rb small_a small_b ∙ get_d_pack (merged (unpack f a) (unpack f b)) k (rw (sized f a b) h)
+byte f a b k h ra rb small_a small_b = and_record f k h a b ra rb small_a small_b ∙ get_or_pack (merged (unpack f a) (unpack f b)) k (rw (sized f a b) h)
 
 abbrev invariant_loop : tie.invariant-loop
 invariant_loop fields a b merged₀ k₀ k_end e k = Stored merged₀ 0 (pack (merged (unpack fields a) (unpack fields b))) (bytes_for fields) e k

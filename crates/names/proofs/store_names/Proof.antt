@@ -4,7 +4,7 @@ use Prim.Native.Nat.{◌-◌}
 use native.Mathlib.Omega.{arith}
 use lib.ListN.{get_or}
 use Rattle.three.specs.Lists.{tabulate}
-use Rattle.three.proofs.Lists.{length_tabulate, get_d_tabulate}
+use Rattle.three.proofs.Lists.{length_tabulate, get_or_tabulate}
 use Rattle.three.proofs.Loops.{Stored, stored_first}
 use Rattle.names.proofs.Tabling.{fill_next, fill_last}
 use Rattle.names.proofs.store_names.Statement.{statement}
@@ -23,7 +23,7 @@ loop_again : tie.Need-loop-preserved invariant_loop decreases_loop
 loop_again c =
     let turn = c.before.before in
     let pre = turn.before.requires in
-    fill_next _ _ _ _ _ _ pre.2 (length_tabulate _ _) turn.loop.invariant c.before.loop-test.true (sym (get_d_tabulate _ (λ v. get_or turn.before.args.names.now v 0) _ 0 c.before.loop-test.true))
+    fill_next _ _ _ _ _ _ pre.2 (length_tabulate _ _) turn.loop.invariant c.before.loop-test.true (sym (get_or_tabulate _ (λ v. get_or turn.before.args.names.now v 0) _ 0 c.before.loop-test.true))
 
 same_length : tie.Need-same-length invariant_loop decreases_loop
 same_length c = c.before.loop.invariant.long

@@ -10,7 +10,7 @@ use Rattle.three.specs.Lists.{over}
 use Rattle.three.specs.Cube.{merged}
 use Rattle.three.specs.Record.{bytes_for, pack, unpack}
 use Rattle.three.specs.RecordInCode.{IsRecord}
-use Rattle.three.proofs.Loops.{Stored, stored_first, stored_next, stored_last, over_paste, get_d_paste}
+use Rattle.three.proofs.Loops.{Stored, stored_first, stored_next, stored_last, over_paste, get_or_paste}
 use Rattle.three.proofs.Pack.{length_pack, length_unpack}
 use Rattle.three.proofs.Merge.{length_merged}
 use Rattle.three.proofs.Bytewise.{and_record}
@@ -34,7 +34,7 @@ module _ (f : ℕ) (a b : List ℕ) (ra : IsRecord f a) (rb : IsRecord f b) (sma
   next e k st h =
       let long = length_common f a b in
       let fits = ra.fits in
-      let kept : get_or e k 0 ≡ get_or a k 0 = ap (λ l. get_or l k 0) st.same ∙ get_d_paste a 0 (common f a b) k k 0 (omega arith) (omega arith) (omega arith) in
+      let kept : get_or e k 0 ≡ get_or a k 0 = ap (λ l. get_or l k 0) st.same ∙ get_or_paste a 0 (common f a b) k k 0 (omega arith) (omega arith) (omega arith) in
       let common_byte = and_record f k h a b ra rb small_a small_b in
       rw zero-add at
       (stored_next a 0 (common f a b) (bytes_for f) (omega arith) (omega arith) e k (bit_and (get_or e k 0) (get_or b k 0)) 0 st h (rw kept common_byte))
