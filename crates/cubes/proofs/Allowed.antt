@@ -7,13 +7,13 @@ use native.Mathlib.Decide.{dec_lt}
 use native.Mathlib.Omega.{arith}
 use lib.ListN.{get_or}
 use Rattle.three.specs.Lists.{Each, empty, also, tabulate}
-use Rattle.three.specs.Cube.{Holds, off, on, ◌∋◌}
+use Rattle.three.specs.Cube.{Holds, ◌∋◌}
 use Rattle.three.proofs.Lists.{get_or_tabulate, get_or_beyond, map_tabulate, each_map}
 use Rattle.circuit.specs.declared.Counts.{Counts}
 use Rattle.circuit.specs.Table.{circuit_of}
 use Rattle.circuit.specs.RulesInCode.{Legal}
 use Rattle.cubes.specs.Run.{start_field, resets}
-use Rattle.cubes.specs.Execution.{Allows, off, on, Execution}
+use Rattle.cubes.specs.Execution.{Allows, Execution}
 
 -- ---- one latch
 

@@ -9,7 +9,7 @@ use Rattle.three.specs.Lists.{empty, also}
 use Rattle.three.specs.Value.{unknown, known, boolean, ternary}
 use Rattle.three.specs.Cube.{Cube, Holds, any, off, on, ◌∋◌}
 use Rattle.three.proofs.Lists.{length_tabulate, each_get_or}
-use Rattle.circuit.specs.Circuit.{Circuit, readings, next, lamps}
+use Rattle.circuit.specs.Circuit.{Circuit, readings, lamps}
 use Rattle.circuit.proofs.Sound.{readings_sound}
 use Rattle.circuit.proofs.Pass.{readings_sized}
 use Rattle.cubes.specs.Run.{switches_unknown, next_cube, lamps_in, watched, watched_in}

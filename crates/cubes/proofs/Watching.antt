@@ -1,5 +1,5 @@
 -- What gets a verdict: lamp i is entry i, bad state i is entry O + i, at each tick and in the verdict's record. Assumes nothing.
-use mathlib.Core.Path.{◌≡◌, refl, sym, ap, ◌∙◌}
+use mathlib.Core.Path.{◌≡◌, sym, ap, ◌∙◌}
 use mathlib.Core.Bool.{Bool, true, false}
 use mathlib.Core.List.{List, ◌++◌, map-append}
 use Prim.Native.Nat.{ℕ, ◌+◌, ◌<◌}
@@ -7,7 +7,7 @@ use native.Mathlib.Decide.{dec_lt}
 use native.Mathlib.Omega.{arith}
 use lib.ListN.{length, get_or, length-map, get_or-append}
 use lib.Seq.{get_or-append-add}
-use Rattle.three.specs.Value.{Three, unknown, known, code}
+use Rattle.three.specs.Value.{unknown, known, code}
 use Rattle.three.specs.Record.{unpack}
 use Rattle.three.proofs.Lists.{get_or_tabulate, get_or_beyond}
 use Rattle.circuit.specs.Circuit.{Circuit, readings}

@@ -15,7 +15,7 @@ ghost use Rattle.cubes.specs.Run.{next_cube, some_low, blocked as isBlocked, sta
 ghost use Rattle.cubes.specs.Buffer.{cube_bytes, cube_of, sound_cube, sound_in};
 ghost use Rattle.cubes.specs.BufferInCode.{longest_cube, IsCube, raised_byte, lowered_byte};
 ghost use Rattle.cubes.specs.HeldInCode.{kept_byte};
-ghost use Rattle.cubes.specs.Given.{cubeTests};
+ghost use Rattle.cubes.specs.Given.{cube_tests};
 ghost use Rattle.stored.specs.CubesInCode.{start_fields, raised_bytes, kept_bytes, covers_from, SwitchesX, Settled};
 
 use circuit::Counts;
@@ -178,7 +178,7 @@ fn cubes_sound(latches: usize, cubes: &[u8], n: usize) -> bool
 // The refusals of n cubes that are given, in order: 10, 14; 0 for none.
 pub fn cubes_refusal(counts: Counts, cubes: &[u8], n: usize) -> u32
     requires { Bounded counts }
-    ensures { result ≡ refusal (cubeTests counts cubes.now n) }
+    ensures { result ≡ refusal (cube_tests counts cubes.now n) }
 {
     if n > cubes.len() / cube_bytes(counts.latches) {
         return 10;

@@ -60,14 +60,20 @@ shown_spelled own next (suc (suc (suc n))) ws o r = absurd (omega arith)
 
 pub length_words : (k : Kind) (ns : List ℕ) → length (words k ns) ≡ width k
 unfolding words width
-length_words k ns = elim k [ input own ↦ refl | latch own ↦ refl | gate own ↦ refl | literal ↦ refl ]
+length_words (input own) ns = refl
+length_words (latch own) ns = refl
+length_words (gate own) ns = refl
+length_words literal ns = refl
 
 pub drop_words : (k : Kind) (ns ws : List ℕ) → drop (width k) (words k ns ++ ws) ≡ ws
 drop_words k ns ws = drop_at (words k ns) ws (width k) (length_words k ns)
 
 pub rules_words : (most : ℕ) (k : Kind) (ns ws : List ℕ) → row_tests most k (words k ns ++ ws) ≡ row_tests most k (words k ns)
 unfolding words row_tests literal_tests operand_tests
-rules_words most k ns ws = elim k [ input own ↦ refl | latch own ↦ refl | gate own ↦ refl | literal ↦ refl ]
+rules_words most (input own) ns ws = refl
+rules_words most (latch own) ns ws = refl
+rules_words most (gate own) ns ws = refl
+rules_words most literal ns ws = refl
 
 -- ---- what is spelled is read
 

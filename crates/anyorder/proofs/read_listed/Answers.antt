@@ -12,17 +12,17 @@ returns-then-number-ne0 c =
 pub returns-then-not-ended : goal.returns-then-not-ended
 returns-then-not-ended c =
     let none = sym c.if-number-ne0.false ∙ c.judge_drawing-number.ensures.answers in
-    left_refused _ _ (tested_refused _ _ 9 (open_stops _ _ _ _ _ none c.ended.ensures (not-true _ c.if-not-ended.true)) (λ e. omega arith)) c.refused-then-not-ended.ensures
+    left_refused _ _ (tested_refused _ _ 9 (open_stops _ _ _ _ _ none c.ended.ensures c.if-not-ended.true) (λ e. omega arith)) c.refused-then-not-ended.ensures
 
 pub returns-then-table-table_length : goal.returns-then-table-table_length
 returns-then-table-table_length c =
     let none = sym c.if-number-ne0.false ∙ c.judge_drawing-number.ensures.answers in
-    left_refused _ _ (tested_refused _ _ 10 (table_stops _ _ _ _ _ none c.ended.ensures (not-false _ c.if-not-ended.false) (omega arith)) (λ e. omega arith)) c.refused-then-table-table_length.ensures
+    left_refused _ _ (tested_refused _ _ 10 (table_stops _ _ _ _ _ none c.ended.ensures c.if-not-ended.false (omega arith)) (λ e. omega arith)) c.refused-then-table-table_length.ensures
 
 pub returns-then-renumbered-most : goal.returns-then-renumbered-most
 returns-then-renumbered-most c =
     let none = sym c.if-number-ne0.false ∙ c.judge_drawing-number.ensures.answers in
-    left_refused _ _ (tested_refused _ _ 10 (list_stops _ _ _ _ _ none c.ended.ensures (not-false _ c.if-not-ended.false) (omega arith) (omega arith)) (λ e. omega arith)) c.refused-then-renumbered-most.ensures
+    left_refused _ _ (tested_refused _ _ 10 (list_stops _ _ _ _ _ none c.ended.ensures c.if-not-ended.false (omega arith) (omega arith)) (λ e. omega arith)) c.refused-then-renumbered-most.ensures
 
 pub fill_drawing-requires : goal.fill_drawing-requires
 fill_drawing-requires c =
@@ -33,4 +33,4 @@ pub returns : goal.returns
 returns c =
     let none = sym c.if-number-ne0.false ∙ c.judge_drawing-number.ensures.answers in
     let filled = c.fill_drawing.ensures in
-    left_accepted _ _ (tested_none _ _ (room_passes _ _ _ _ _ none c.ended.ensures (not-false _ c.if-not-ended.false) (omega arith) (omega arith))) filled.0 filled.1
+    left_accepted _ _ (tested_none _ _ (room_passes _ _ _ _ _ none c.ended.ensures c.if-not-ended.false (omega arith) (omega arith))) filled.0 filled.1

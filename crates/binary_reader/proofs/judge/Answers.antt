@@ -23,8 +23,8 @@ returns-then-rows-ne0 c =
 
 pub returns-then-not-ended : goal.returns-then-not-ended
 returns-then-not-ended c =
-    judged_open _ _ circuit_rows _ c.if-text-gt-MOST_TEXT.false c.first_line-first.ensures c.header_refusal-in_header.ensures c.if-in_header-ne0.false c.Counts-of.ensures no_rows c.judge_rows-rows.ensures c.if-rows-ne0.false c.ended.ensures (not-true _ c.if-not-ended.true)
+    judged_open _ _ circuit_rows _ c.if-text-gt-MOST_TEXT.false c.first_line-first.ensures c.header_refusal-in_header.ensures c.if-in_header-ne0.false c.Counts-of.ensures no_rows c.judge_rows-rows.ensures c.if-rows-ne0.false c.ended.ensures c.if-not-ended.true
 
 pub returns : goal.returns
 returns c =
-    judged_body _ _ circuit_rows _ c.if-text-gt-MOST_TEXT.false c.first_line-first.ensures c.header_refusal-in_header.ensures c.if-in_header-ne0.false c.Counts-of.ensures no_rows c.judge_rows-rows.ensures c.if-rows-ne0.false c.ended.ensures (not-false _ c.if-not-ended.false)
+    judged_body _ _ circuit_rows _ c.if-text-gt-MOST_TEXT.false c.first_line-first.ensures c.header_refusal-in_header.ensures c.if-in_header-ne0.false c.Counts-of.ensures no_rows c.judge_rows-rows.ensures c.if-rows-ne0.false c.ended.ensures c.if-not-ended.false

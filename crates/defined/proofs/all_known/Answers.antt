@@ -25,11 +25,11 @@ known-requires c = c.requires.small _ c.loop-i-test.true
 
 pub returns-then-not-known : goal.returns-then-not-known
 returns-then-not-known c =
-    λ d e. tried_fails _ (λ i. defined d _) c.loop-i-test.true (c.known.ensures d e) (not-true _ c.if-not-known.true)
+    λ d e. tried_fails _ (λ i. defined d _) c.loop-i-test.true (c.known.ensures d e) c.if-not-known.true
 
 pub loop-i-preserved : goal.loop-i-preserved
 loop-i-preserved c =
-    λ d e. tried_next _ _ (c.loop-i.invariant d e) c.loop-i-test.true (c.known.ensures d e) (not-false _ c.if-not-known.false)
+    λ d e. tried_next _ _ (c.loop-i.invariant d e) c.loop-i-test.true (c.known.ensures d e) c.if-not-known.false
 
 pub returns : goal.returns
 returns c = λ d e. tried_all _ _ (c.loop-i.invariant d e) c.loop-i-test.false

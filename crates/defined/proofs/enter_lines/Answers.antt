@@ -13,10 +13,10 @@ enter_line-requires c =
     (pre.0, pre.1, pre.2, c.loop-k-test.true, c.loop-k.invariant)
 
 pub returns-then-not-enter_line : goal.returns-then-not-enter_line
-returns-then-not-enter_line c = c.enter_line.ensures.stops (not-true _ c.if-not-enter_line.true)
+returns-then-not-enter_line c = c.enter_line.ensures.stops c.if-not-enter_line.true
 
 pub loop-k-preserved : goal.loop-k-preserved
-loop-k-preserved c = c.enter_line.ensures.goes (not-false _ c.if-not-enter_line.false)
+loop-k-preserved c = c.enter_line.ensures.goes c.if-not-enter_line.false
 
 pub returns : goal.returns
 returns c = entered_last _ _ _ c.loop-k.invariant (omega arith)

@@ -34,7 +34,7 @@ returns-then-not-find_depths c =
     let ls = rw gates at c.find_sources.ensures in
     let rs = rw gates at c.find_sources-2.ensures in
     let ops = operands _ _ _ _ refl _ _ ls.1 rs.1 pre.0 pre.1 ls.0 rs.0 in
-    λ most owns e. loops_judged _ _ _ _ refl _ _ ls.1 rs.1 ops most owns e _ c.find_depths.ensures (not-true _ c.if-not-find_depths.true)
+    λ most owns e. loops_judged _ _ _ _ refl _ _ ls.1 rs.1 ops most owns e _ c.find_depths.ensures c.if-not-find_depths.true
 
 pub order_gates-requires : goal.order_gates-requires
 order_gates-requires c =
@@ -43,7 +43,7 @@ order_gates-requires c =
     let ls = rw gates at c.find_sources.ensures in
     let rs = rw gates at c.find_sources-2.ensures in
     let ops = operands _ _ _ _ refl _ _ ls.1 rs.1 pre.0 pre.1 ls.0 rs.0 in
-    (depths_ready _ _ _ ops _ c.find_depths.ensures (not-false _ c.if-not-find_depths.false), pre.2)
+    (depths_ready _ _ _ ops _ c.find_depths.ensures c.if-not-find_depths.false, pre.2)
 
 pub returns : goal.returns
 returns c =
@@ -52,4 +52,4 @@ returns c =
     let ls = rw gates at c.find_sources.ensures in
     let rs = rw gates at c.find_sources-2.ensures in
     let ops = operands _ _ _ _ refl _ _ ls.1 rs.1 pre.0 pre.1 ls.0 rs.0 in
-    λ most owns e. order_judged _ _ _ _ refl _ _ ls.1 rs.1 ops most owns e _ _ c.find_depths.ensures (not-false _ c.if-not-find_depths.false) c.order_gates.ensures
+    λ most owns e. order_judged _ _ _ _ refl _ _ ls.1 rs.1 ops most owns e _ _ c.find_depths.ensures c.if-not-find_depths.false c.order_gates.ensures

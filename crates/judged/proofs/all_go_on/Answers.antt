@@ -31,13 +31,13 @@ shape_of-verdict-then-not-goes_on c =
 pub returns-then-not-goes_on : goal.returns-then-not-goes_on
 returns-then-not-goes_on c =
     let s = of_length _ _ _ _ c.requires.0 c.cube_bytes-len.ensures in
-    walked_part _ _ _ _ _ _ 0 s.some (asked_first _ _ _ _ _ _ s c.onward-first.ensures c.goes_on.ensures.0) (not-true _ c.if-not-goes_on.true)
+    walked_part _ _ _ _ _ _ 0 s.some (asked_first _ _ _ _ _ _ s c.onward-first.ensures c.goes_on.ensures.0) c.if-not-goes_on.true
 
 pub loop-k-init : goal.loop-k-init
 loop-k-init c =
     let s = of_length _ _ _ _ c.requires.0 c.cube_bytes-len.ensures in
     let went = c.goes_on.ensures in
-    passing_first _ _ _ _ _ _ c.args.verdict.now c.requires.2 _ went.2 s (asked_first _ _ _ _ _ _ s c.onward-first.ensures went.0) (not-false _ c.if-not-goes_on.false) _ _ went.1 refl
+    passing_first _ _ _ _ _ _ c.args.verdict.now c.requires.2 _ went.2 s (asked_first _ _ _ _ _ _ s c.onward-first.ensures went.0) c.if-not-goes_on.false _ _ went.1 refl
 
 pub onward-to-requires : goal.onward-to-requires
 onward-to-requires c = c.loop-k-test.true
@@ -64,7 +64,7 @@ shape_of-verdict-then-not-goes_on-2 c =
 
 pub returns-then-not-goes_on-2 : goal.returns-then-not-goes_on-2
 returns-then-not-goes_on-2 c =
-    walked_part _ _ _ _ _ _ c.loop-k.k c.loop-k-test.true (asked _ _ _ _ _ _ c.loop-k.invariant.given c.loop-k.k c.onward-to.ensures c.goes_on-in-loop-k.ensures.0) (not-true _ c.if-not-goes_on-2.true)
+    walked_part _ _ _ _ _ _ c.loop-k.k c.loop-k-test.true (asked _ _ _ _ _ _ c.loop-k.invariant.given c.loop-k.k c.onward-to.ensures c.goes_on-in-loop-k.ensures.0) c.if-not-goes_on-2.true
 
 pub slice_bounds-agree-end : goal.slice_bounds-agree-end
 slice_bounds-agree-end c =
@@ -84,7 +84,7 @@ pub loop-k-preserved : goal.loop-k-preserved
 loop-k-preserved c =
     let went = c.goes_on-in-loop-k.ensures in
     let merged = rw c.verdicts.ensures at c.agree.ensures in
-    passing_next _ _ _ _ _ _ c.args.verdict.now c.requires.2 _ c.goes_on.ensures.2 c.loop-k.invariant c.loop-k-test.true _ went.2 (asked _ _ _ _ _ _ c.loop-k.invariant.given c.loop-k.k c.onward-to.ensures went.0) (not-false _ c.if-not-goes_on-2.false) _ _ merged went.1
+    passing_next _ _ _ _ _ _ c.args.verdict.now c.requires.2 _ c.goes_on.ensures.2 c.loop-k.invariant c.loop-k-test.true _ went.2 (asked _ _ _ _ _ _ c.loop-k.invariant.given c.loop-k.k c.onward-to.ensures went.0) c.if-not-goes_on-2.false _ _ merged went.1
 
 pub shape_of-verdict : goal.shape_of-verdict
 shape_of-verdict c =

@@ -25,7 +25,7 @@ pub returns-then-not-subsumes : goal.returns-then-not-subsumes
 returns-then-not-subsumes c =
     let pre = c.requires in
     let cube = first_cube _ _ _ pre.1 (omega arith) in
-    then_asked (lt-ltb 0 c.args.n (omega arith)) (same_fails _ _ (sym (start_inside _ _ _ (λ i. (c.type_inv.cubes i).fits) _ c.cube_bytes-len.ensures cube _ c.store_start.ensures c.subsumes.ensures) ∙ not-true _ c.if-not-subsumes.true))
+    then_asked (lt-ltb 0 c.args.n (omega arith)) (same_fails _ _ (sym (start_inside _ _ _ (λ i. (c.type_inv.cubes i).fits) _ c.cube_bytes-len.ensures cube _ c.store_start.ensures c.subsumes.ensures) ∙ c.if-not-subsumes.true))
 
 pub marked-around-requires : goal.marked-around-requires
 marked-around-requires c =
@@ -45,4 +45,4 @@ returns c =
     let cube = first_cube _ _ _ pre.1 (omega arith) in
     let size = c.cube_bytes-len.ensures in
     let stored = c.store_start.ensures in
-    then_asked (lt-ltb 0 c.args.n (omega arith)) (same_decided _ _ (sym (start_inside _ _ _ (λ i. (c.type_inv.cubes i).fits) _ size cube _ stored c.subsumes.ensures) ∙ not-false _ c.if-not-subsumes.false) (start_around _ _ _ (λ i. (c.type_inv.cubes i).fits) _ size cube _ stored _ _ c.marked-around.ensures c.covers.ensures))
+    then_asked (lt-ltb 0 c.args.n (omega arith)) (same_decided _ _ (sym (start_inside _ _ _ (λ i. (c.type_inv.cubes i).fits) _ size cube _ stored c.subsumes.ensures) ∙ c.if-not-subsumes.false) (start_around _ _ _ (λ i. (c.type_inv.cubes i).fits) _ size cube _ stored _ _ c.marked-around.ensures c.covers.ensures))

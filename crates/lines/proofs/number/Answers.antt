@@ -18,7 +18,7 @@ pub returns-then-d-gt9 : goal.returns-then-d-gt9
 returns-then-d-gt9 c = digits_stop _ _ c.loop-at.invariant c.digit_at-d.ensures c.if-d-gt9.true
 
 pub returns-then-not-may_grow : goal.returns-then-not-may_grow
-returns-then-not-may_grow c = digits_over _ _ c.loop-at.invariant c.digit_at-d.ensures c.if-d-gt9.false (sym c.may_grow.ensures ∙ not-true _ c.if-not-may_grow.true)
+returns-then-not-may_grow c = digits_over _ _ c.loop-at.invariant c.digit_at-d.ensures c.if-d-gt9.false (sym c.may_grow.ensures ∙ c.if-not-may_grow.true)
 
 pub overflow_add-next-in-loop-at : goal.overflow_add-next-in-loop-at
 overflow_add-next-in-loop-at c = omega (arith, digit_within _ _ c.digit_at-d.ensures c.if-d-gt9.false)
@@ -27,4 +27,4 @@ pub loop-at-smaller : goal.loop-at-smaller
 loop-at-smaller c = omega (arith, digit_within _ _ c.digit_at-d.ensures c.if-d-gt9.false)
 
 pub loop-at-preserved : goal.loop-at-preserved
-loop-at-preserved c = digits_next _ _ c.loop-at.invariant c.digit_at-d.ensures c.if-d-gt9.false (sym c.may_grow.ensures ∙ not-false _ c.if-not-may_grow.false)
+loop-at-preserved c = digits_next _ _ c.loop-at.invariant c.digit_at-d.ensures c.if-d-gt9.false (sym c.may_grow.ensures ∙ c.if-not-may_grow.false)

@@ -15,23 +15,23 @@ pub returns-then-b-len : goal.returns-then-b-len
 returns-then-b-len c = b_short _ _ _ _ (omega arith) (omega arith) (omega arith)
 
 pub returns-then-not-sound : goal.returns-then-not-sound
-returns-then-not-sound c = a_bad _ _ _ _ (omega arith) (omega arith) (omega arith) (sym c.sound.ensures ∙ not-true _ c.if-not-sound.true)
+returns-then-not-sound c = a_bad _ _ _ _ (omega arith) (omega arith) (omega arith) (sym c.sound.ensures ∙ c.if-not-sound.true)
 
 pub returns-then-not-sound-2 : goal.returns-then-not-sound-2
 returns-then-not-sound-2 c =
-    b_bad _ _ _ _ (omega arith) (omega arith) (omega arith) (sym c.sound.ensures ∙ not-false _ c.if-not-sound.false)
-    (sym c.sound-2.ensures ∙ not-true _ c.if-not-sound-2.true)
+    b_bad _ _ _ _ (omega arith) (omega arith) (omega arith) (sym c.sound.ensures ∙ c.if-not-sound.false)
+    (sym c.sound-2.ensures ∙ c.if-not-sound-2.true)
 
 pub returns-then-merged-len : goal.returns-then-merged-len
 returns-then-merged-len c =
     merged_short _ _ _ _ (omega arith)
-    (record { fits = omega arith; good = sym c.sound.ensures ∙ not-false _ c.if-not-sound.false })
-    (record { fits = omega arith; good = sym c.sound-2.ensures ∙ not-false _ c.if-not-sound-2.false })
+    (record { fits = omega arith; good = sym c.sound.ensures ∙ c.if-not-sound.false })
+    (record { fits = omega arith; good = sym c.sound-2.ensures ∙ c.if-not-sound-2.false })
     (omega arith)
 
 pub returns : goal.returns
 returns c =
     merge_passes _ _ _ _ (omega arith)
-    (record { fits = omega arith; good = sym c.sound.ensures ∙ not-false _ c.if-not-sound.false })
-    (record { fits = omega arith; good = sym c.sound-2.ensures ∙ not-false _ c.if-not-sound-2.false })
+    (record { fits = omega arith; good = sym c.sound.ensures ∙ c.if-not-sound.false })
+    (record { fits = omega arith; good = sym c.sound-2.ensures ∙ c.if-not-sound-2.false })
     (omega arith)

@@ -5,10 +5,10 @@ use native.Mathlib.Omega.{arith}
 use Rattle.reader.proofs.first_line.Goals as goal
 
 pub returns-then-not-opens : goal.returns-then-not-opens
-returns-then-not-opens c = rw (header_none _ _ (omega arith) _ c.opens.ensures (not-true _ c.if-not-opens.true)) (c.no_line.ensures _ (omega arith))
+returns-then-not-opens c = rw (header_none _ _ (omega arith) _ c.opens.ensures c.if-not-opens.true) (c.no_line.ensures _ (omega arith))
 
 pub line-requires : goal.line-requires
-line-requires c = (opened_long _ _ (omega arith) c.opens.ensures (not-false _ c.if-not-opens.false), omega arith)
+line-requires c = (opened_long _ _ (omega arith) c.opens.ensures c.if-not-opens.false, omega arith)
 
 pub returns : goal.returns
-returns c = rw (header_line _ _ (omega arith) _ c.opens.ensures (not-false _ c.if-not-opens.false)) c.line.ensures
+returns c = rw (header_line _ _ (omega arith) _ c.opens.ensures c.if-not-opens.false) c.line.ensures

@@ -21,8 +21,8 @@ returns-then-body-ne0 c =
 
 pub returns-then-not-ended : goal.returns-then-not-ended
 returns-then-not-ended c =
-    judged_open _ _ (circuit_lines _) _ c.if-text-gt-MOST_TEXT.false c.requires c.header_refusal-in_header.ensures c.if-in_header-ne0.false c.Counts-of.ensures (no_lines _) c.judge_body-body.ensures c.if-body-ne0.false c.ended.ensures (not-true _ c.if-not-ended.true)
+    judged_open _ _ (circuit_lines _) _ c.if-text-gt-MOST_TEXT.false c.requires c.header_refusal-in_header.ensures c.if-in_header-ne0.false c.Counts-of.ensures (no_lines _) c.judge_body-body.ensures c.if-body-ne0.false c.ended.ensures c.if-not-ended.true
 
 pub returns : goal.returns
 returns c =
-    judged_body _ _ (circuit_lines _) _ c.if-text-gt-MOST_TEXT.false c.requires c.header_refusal-in_header.ensures c.if-in_header-ne0.false c.Counts-of.ensures (no_lines _) c.judge_body-body.ensures c.if-body-ne0.false c.ended.ensures (not-false _ c.if-not-ended.false)
+    judged_body _ _ (circuit_lines _) _ c.if-text-gt-MOST_TEXT.false c.requires c.header_refusal-in_header.ensures c.if-in_header-ne0.false c.Counts-of.ensures (no_lines _) c.judge_body-body.ensures c.if-body-ne0.false c.ended.ensures c.if-not-ended.false

@@ -21,7 +21,7 @@ start_covered-requires c = sendable _ _ _ _ (sym c.if-number-ne0.false ∙ c.giv
 
 pub returns-then-not-start_covered : goal.returns-then-not-start_covered
 returns-then-not-start_covered c =
-    let sent = start_refused _ c.given_refusal-number.ensures c.if-number-ne0.false c.start_covered.ensures (not-true _ c.if-not-start_covered.true) in
+    let sent = start_refused _ c.given_refusal-number.ensures c.if-number-ne0.false c.start_covered.ensures c.if-not-start_covered.true in
     (sent, promises _ _ _ sent)
 
 pub first_uncovered-cube-requires : goal.first_uncovered-cube-requires
@@ -31,7 +31,7 @@ first_uncovered-cube-requires c =
 
 pub returns-then-cube-n : goal.returns-then-cube-n
 returns-then-cube-n c =
-    let sent = next_refused _ c.given_refusal-number.ensures c.if-number-ne0.false c.start_covered.ensures (not-false _ c.if-not-start_covered.false) c.first_uncovered-cube.ensures c.if-cube-n.true in
+    let sent = next_refused _ c.given_refusal-number.ensures c.if-number-ne0.false c.start_covered.ensures c.if-not-start_covered.false c.first_uncovered-cube.ensures c.if-cube-n.true in
     (sent, promises _ _ _ sent)
 
 pub verdicts-requires : goal.verdicts-requires
@@ -42,7 +42,7 @@ verdicts-requires c =
 pub returns-then-verdict-len : goal.returns-then-verdict-len
 returns-then-verdict-len c =
     let short : length c.args.verdict.now < bytes_for (verdicts c.args.counts) = omega (arith, c.verdicts.ensures) in
-    let sent = verdict_refused _ c.given_refusal-number.ensures c.if-number-ne0.false c.start_covered.ensures (not-false _ c.if-not-start_covered.false) c.first_uncovered-cube.ensures (omega arith) short in
+    let sent = verdict_refused _ c.given_refusal-number.ensures c.if-number-ne0.false c.start_covered.ensures c.if-not-start_covered.false c.first_uncovered-cube.ensures (omega arith) short in
     (sent, promises _ _ _ sent)
 
 pub copy_record-requires : goal.copy_record-requires
@@ -53,5 +53,5 @@ copy_record-requires c =
 pub returns : goal.returns
 returns c =
     let long = rw c.verdicts.ensures at c.record_length-len.ensures in
-    let sent = accepted _ c.given_refusal-number.ensures c.if-number-ne0.false c.start_covered.ensures (not-false _ c.if-not-start_covered.false) c.first_uncovered-cube.ensures (omega arith) long (omega (arith, long)) c.copy_record.ensures in
+    let sent = accepted _ c.given_refusal-number.ensures c.if-number-ne0.false c.start_covered.ensures c.if-not-start_covered.false c.first_uncovered-cube.ensures (omega arith) long (omega (arith, long)) c.copy_record.ensures in
     (sent, promises _ _ _ sent)

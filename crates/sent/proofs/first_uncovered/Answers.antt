@@ -41,13 +41,13 @@ shape_of-verdict-then-not-next_covered c =
 pub returns-then-not-next_covered : goal.returns-then-not-next_covered
 returns-then-not-next_covered c =
     let j = judgeable _ _ _ _ _ (of_length _ _ _ _ c.requires.0 c.cube_bytes-len.ensures) (omega (arith, c.if-n-eq0.false)) in
-    walked_none _ _ _ _ _ j (asked_first _ _ _ _ _ j c.next_covered.ensures.0) (not-true _ c.if-not-next_covered.true) _
+    walked_none _ _ _ _ _ j (asked_first _ _ _ _ _ j c.next_covered.ensures.0) c.if-not-next_covered.true _
 
 pub loop-k-init : goal.loop-k-init
 loop-k-init c =
     let j = judgeable _ _ _ _ _ (of_length _ _ _ _ c.requires.0 c.cube_bytes-len.ensures) (omega (arith, c.if-n-eq0.false)) in
     let next = c.next_covered.ensures in
-    passing_first _ _ _ _ _ _ c.args.verdict.now c.requires.1 _ next.2 j (asked_first _ _ _ _ _ j next.0) (not-false _ c.if-not-next_covered.false) _ _ next.1 refl
+    passing_first _ _ _ _ _ _ c.args.verdict.now c.requires.1 _ next.2 j (asked_first _ _ _ _ _ j next.0) c.if-not-next_covered.false _ _ next.1 refl
 
 pub overflow_mul-k : goal.overflow_mul-k
 overflow_mul-k c = omega (arith, cube_place _ _ _ _ c.loop-k-test.true c.loop-k.invariant.given.fits, c.well_formed)
@@ -69,7 +69,7 @@ shape_of-verdict-then-not-next_covered-2 c =
 pub returns-then-not-next_covered-2 : goal.returns-then-not-next_covered-2
 returns-then-not-next_covered-2 c =
     let first = c.next_covered.ensures.2 in
-    walked_part _ _ _ _ _ c.args.verdict.now c.requires.1 _ first c.loop-k.invariant c.loop-k-test.true (asked _ _ _ _ _ c.loop-k.invariant.given _ c.next_covered-in-loop-k.ensures.0) (not-true _ c.if-not-next_covered-2.true)
+    walked_part _ _ _ _ _ c.args.verdict.now c.requires.1 _ first c.loop-k.invariant c.loop-k-test.true (asked _ _ _ _ _ c.loop-k.invariant.given _ c.next_covered-in-loop-k.ensures.0) c.if-not-next_covered-2.true
 
 pub slice_bounds-agree-end : goal.slice_bounds-agree-end
 slice_bounds-agree-end c =
@@ -90,7 +90,7 @@ pub loop-k-preserved : goal.loop-k-preserved
 loop-k-preserved c =
     let first = c.next_covered.ensures.2 in
     let next = c.next_covered-in-loop-k.ensures in
-    passing_next _ _ _ _ _ _ c.args.verdict.now c.requires.1 _ first c.loop-k.invariant c.loop-k-test.true _ next.2 (asked _ _ _ _ _ c.loop-k.invariant.given _ next.0) (not-false _ c.if-not-next_covered-2.false) _ _ (rw c.verdicts-fields.ensures at c.agree.ensures) next.1
+    passing_next _ _ _ _ _ _ c.args.verdict.now c.requires.1 _ first c.loop-k.invariant c.loop-k-test.true _ next.2 (asked _ _ _ _ _ c.loop-k.invariant.given _ next.0) c.if-not-next_covered-2.false _ _ (rw c.verdicts-fields.ensures at c.agree.ensures) next.1
 
 pub shape_of-verdict : goal.shape_of-verdict
 shape_of-verdict c =

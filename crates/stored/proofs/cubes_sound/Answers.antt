@@ -21,11 +21,11 @@ cube_sound-requires c =
 
 pub returns-then-not-cube_sound : goal.returns-then-not-cube_sound
 returns-then-not-cube_sound c =
-    tried_fails _ _ c.loop-k-test.true (judged_cube _ _ _ c.requires.1 _ c.cube_bytes-len.ensures _ c.cube_sound.ensures) (not-true _ c.if-not-cube_sound.true)
+    tried_fails _ _ c.loop-k-test.true (judged_cube _ _ _ c.requires.1 _ c.cube_bytes-len.ensures _ c.cube_sound.ensures) c.if-not-cube_sound.true
 
 pub loop-k-preserved : goal.loop-k-preserved
 loop-k-preserved c =
-    tried_next _ _ c.loop-k.invariant c.loop-k-test.true (judged_cube _ _ _ c.requires.1 _ c.cube_bytes-len.ensures _ c.cube_sound.ensures) (not-false _ c.if-not-cube_sound.false)
+    tried_next _ _ c.loop-k.invariant c.loop-k-test.true (judged_cube _ _ _ c.requires.1 _ c.cube_bytes-len.ensures _ c.cube_sound.ensures) c.if-not-cube_sound.false
 
 pub returns : goal.returns
 returns c = tried_all _ _ c.loop-k.invariant c.loop-k-test.false

@@ -1,5 +1,5 @@
 -- `table::gates_kept` meets its contract: each line is tried in turn. Assumes nothing.
-use Prim.Native.Nat.{◌+◌, ◌*◌, ◌-◌}
+use Prim.Native.Nat.{◌+◌, ◌*◌}
 use Rattle.three.proofs.Loops.{Tried}
 use Rattle.circuit.specs.RulesInCode.{gate_kept}
 use Rattle.table.proofs.gates_kept.Given as goal

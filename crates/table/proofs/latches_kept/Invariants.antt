@@ -1,5 +1,5 @@
 -- `table::latches_kept` meets its contract: each line is tried in turn. Assumes nothing.
-use Prim.Native.Nat.{◌*◌, ◌-◌}
+use Prim.Native.Nat.{◌*◌}
 use Rattle.three.proofs.Loops.{Tried}
 use Rattle.circuit.specs.RulesInCode.{latch_kept}
 use Rattle.table.proofs.latches_kept.Given as goal

@@ -1,5 +1,5 @@
 -- `table::literals_kept` meets its contract: each line is tried in turn. Assumes nothing.
-use Prim.Native.Nat.{◌+◌, ◌-◌}
+use Prim.Native.Nat.{◌+◌}
 use Rattle.three.proofs.Loops.{Tried}
 use Rattle.circuit.specs.RulesInCode.{literal_kept}
 use Rattle.table.proofs.literals_kept.Given as goal

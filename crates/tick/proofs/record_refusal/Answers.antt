@@ -12,10 +12,10 @@ pub returns-then-switches-record_length : goal.returns-then-switches-record_leng
 returns-then-switches-record_length c = switches_short _ _ _ (omega arith) (omega arith)
 
 pub returns-then-not-sound : goal.returns-then-not-sound
-returns-then-not-sound c = state_bad _ _ _ (omega arith) (omega arith) (sym c.sound.ensures ∙ not-true _ c.if-not-sound.true)
+returns-then-not-sound c = state_bad _ _ _ (omega arith) (omega arith) (sym c.sound.ensures ∙ c.if-not-sound.true)
 
 pub returns-then-not-sound-2 : goal.returns-then-not-sound-2
-returns-then-not-sound-2 c = switches_bad _ _ _ (omega arith) (omega arith) (sym c.sound.ensures ∙ not-false _ c.if-not-sound.false) (sym c.sound-2.ensures ∙ not-true _ c.if-not-sound-2.true)
+returns-then-not-sound-2 c = switches_bad _ _ _ (omega arith) (omega arith) (sym c.sound.ensures ∙ c.if-not-sound.false) (sym c.sound-2.ensures ∙ c.if-not-sound-2.true)
 
 pub returns : goal.returns
-returns c = records_pass _ _ _ (omega arith) (omega arith) (sym c.sound.ensures ∙ not-false _ c.if-not-sound.false) (sym c.sound-2.ensures ∙ not-false _ c.if-not-sound-2.false)
+returns c = records_pass _ _ _ (omega arith) (omega arith) (sym c.sound.ensures ∙ c.if-not-sound.false) (sym c.sound-2.ensures ∙ c.if-not-sound-2.false)

@@ -9,10 +9,10 @@ pub returns-then-state-record_length : goal.returns-then-state-record_length
 returns-then-state-record_length c = state_short _ _ _ (omega arith)
 
 pub returns-then-not-sound : goal.returns-then-not-sound
-returns-then-not-sound c = state_bad _ _ _ (omega arith) (sym c.sound.ensures ∙ not-true _ c.if-not-sound.true)
+returns-then-not-sound c = state_bad _ _ _ (omega arith) (sym c.sound.ensures ∙ c.if-not-sound.true)
 
 pub returns-then-lamp-counts : goal.returns-then-lamp-counts
-returns-then-lamp-counts c = no_lamp _ _ _ (omega arith) (sym c.sound.ensures ∙ not-false _ c.if-not-sound.false) c.if-lamp-counts.true
+returns-then-lamp-counts c = no_lamp _ _ _ (omega arith) (sym c.sound.ensures ∙ c.if-not-sound.false) c.if-lamp-counts.true
 
 pub returns : goal.returns
-returns c = given_passes _ _ _ (omega arith) (sym c.sound.ensures ∙ not-false _ c.if-not-sound.false) c.if-lamp-counts.false
+returns c = given_passes _ _ _ (omega arith) (sym c.sound.ensures ∙ c.if-not-sound.false) c.if-lamp-counts.false
