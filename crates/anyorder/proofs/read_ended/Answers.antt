@@ -21,9 +21,9 @@ read_body-requires c =
     let short = c.if-text-gt-MOST_TEXT.false in
     let refusal = c.header_refusal-in_header.ensures in
     let none = c.if-in_header-ne0.false in
-    (omega arith, first_most _ [] [] pre.1 short pre.0 refusal none c.Counts-of.ensures c.entry-most.ensures, first_bounded _ [] [] pre.1 short pre.0 refusal none c.Counts-of.ensures c.entry-most.ensures)
+    (omega arith, first_most _ [] [] pre.1 short pre.0 refusal none c.counts_of-counts.ensures c.entry-most.ensures, first_bounded _ [] [] pre.1 short pre.0 refusal none c.counts_of-counts.ensures c.entry-most.ensures)
 
 pub returns : goal.returns
 returns c =
     let pre = c.requires in
-    left_same (goes_on _ _ _ pre.1 c.if-text-gt-MOST_TEXT.false pre.0 c.header_refusal-in_header.ensures c.if-in_header-ne0.false c.Counts-of.ensures c.entry-most.ensures) c.read_body.ensures
+    left_same (goes_on _ _ _ pre.1 c.if-text-gt-MOST_TEXT.false pre.0 c.header_refusal-in_header.ensures c.if-in_header-ne0.false c.counts_of-counts.ensures c.entry-most.ensures) c.read_body.ensures

@@ -1,7 +1,6 @@
 -- `anyorder::read_listed` meets its contract: 20, 21, 22, then 9, then 10 twice; and then table and list. Assumes nothing.
 use mathlib.Core.Path.{sym, ◌∙◌}
 use native.Mathlib.Omega.{arith}
-use borrow.Author.Tests.{not-true, not-false}
 use Rattle.anyorder.proofs.Answering.{left_refused, left_accepted, tested_refused, tested_none, judged_stops, open_stops, table_stops, list_stops, room_passes}
 use Rattle.anyorder.proofs.read_listed.Goals as goal
 

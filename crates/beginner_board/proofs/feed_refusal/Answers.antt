@@ -1,5 +1,4 @@
 -- `beginner_board::feed_refusal` meets its contract: next literals, lamps and gates are tried in the order of the list. Assumes nothing.
-use borrow.Author.Tests.{not-true, not-false}
 use Rattle.beginners.proofs.Rules.{nexts_break, literals_break, gates_break, feed_passes}
 use Rattle.beginner_board.proofs.feed_refusal.Goals as goal
 

@@ -15,12 +15,12 @@ row_line-found-requires c = let turn = c.loop-i.invariant c.requires.3 in omega 
 pub fill_line-word-requires : goal.fill_line-word-requires
 fill_line-word-requires c =
     let f = c.requires.3 in
-    filling_fits (c.loop-i.invariant f) c.loop-i-test.true (line_turn f.counts _ _ _ f.bounded (omega arith) (omega arith) c.row_Line.ensures (words_alike _ _ _))
+    filling_fits (c.loop-i.invariant f) c.loop-i-test.true (line_turn f.counts _ _ _ f.bounded (omega arith) (omega arith) c.row_line-found.ensures (words_alike _ _ _))
 
 pub loop-i-preserved : goal.loop-i-preserved
 loop-i-preserved c =
     let words = c.fill_line-word.ensures in
-    λ f. filling_next (c.loop-i.invariant f) c.loop-i-test.true (line_turn f.counts _ _ _ f.bounded (omega arith) (omega arith) c.row_Line.ensures (words_alike _ _ _)) words.0 words.1
+    λ f. filling_next (c.loop-i.invariant f) c.loop-i-test.true (line_turn f.counts _ _ _ f.bounded (omega arith) (omega arith) c.row_line-found.ensures (words_alike _ _ _)) words.0 words.1
 
 pub shape_of-table : goal.shape_of-table
 shape_of-table c = (c.loop-i.invariant c.requires.3).on.long

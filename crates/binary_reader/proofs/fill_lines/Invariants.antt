@@ -9,5 +9,5 @@ use Rattle.binary_reader.proofs.fill_lines.Given as goal
 
 abbrev pub invariant-loop-i : goal.invariant-loop-i
 invariant-loop-i l =
-    (f : KindFillable circuit_rows l.text (coded l.kind) l.own l.count (record { l.at = l.initial.at; l.word = l.initial.word }) l.initial.table)
+    (f : KindFillable circuit_rows l.text (coded l.kind) l.own l.count (record { at = l.initial.at; word = l.initial.word }) l.initial.table)
     → Filling (circuit_rows f.counts) l.text (coded l.kind) l.own l.count f.behind (stand (several (coded l.kind) l.own l.count f.behind) l.initial.at l.initial.word l.initial.table) l.at l.word l.i l.table

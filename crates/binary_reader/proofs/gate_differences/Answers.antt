@@ -3,10 +3,10 @@ use Rattle.binary_reader.proofs.Finding.{gate_none, gate_half, gate_both}
 use Rattle.binary_reader.proofs.gate_differences.Goals as goal
 
 pub returns-in_default : goal.returns-in_default
-returns-in_default c = gate_none _ _ c.difference-one.ensures c.enum_told-1.given.1
+returns-in_default c = gate_none _ _ c.difference-one.ensures c.in_default.is
 
 pub returns-in_default-two : goal.returns-in_default-two
-returns-in_default-two c = gate_half _ _ c.difference-one.ensures c.one-1.given.1 c.difference-two.ensures c.enum_told-in_default-two-1.given.1
+returns-in_default-two c = gate_half _ _ c.difference-one.ensures c.in-Value.is c.difference-two.ensures c.in_default-two.is
 
 pub returns : goal.returns
-returns c = gate_both _ _ c.difference-one.ensures c.one-1.given.1 c.difference-two.ensures c.two-1.given.1
+returns c = gate_both _ _ c.difference-one.ensures c.in-Value.is c.difference-two.ensures c.in-Value-two.is

@@ -1,5 +1,4 @@
 -- `binary_reader::judge` meets its contract: the length, the first line, the rows, and then the end. Assumes nothing.
-use borrow.Author.Tests.{not-true, not-false}
 use native.Mathlib.Omega.{arith}
 use Rattle.binary.specs.Binary.{circuit_rows}
 use Rattle.reader.proofs.Answering.{judged_long, judged_header, judged_bounded, judged_stops, judged_open, judged_body}
@@ -15,16 +14,16 @@ returns-then-in_header-ne0 c =
 
 pub judge_rows-rows-requires : goal.judge_rows-rows-requires
 judge_rows-rows-requires c =
-    (judged_bounded _ _ _ c.first_line-first.ensures c.header_refusal-in_header.ensures c.if-in_header-ne0.false c.Counts-of.ensures, omega (arith, c.first_line-first.ensures.within))
+    (judged_bounded _ _ _ c.first_line-first.ensures c.header_refusal-in_header.ensures c.if-in_header-ne0.false c.counts_of-counts.ensures, omega (arith, c.first_line-first.ensures.within))
 
 pub returns-then-rows-ne0 : goal.returns-then-rows-ne0
 returns-then-rows-ne0 c =
-    judged_stops _ _ circuit_rows _ c.if-text-gt-MOST_TEXT.false c.first_line-first.ensures c.header_refusal-in_header.ensures c.if-in_header-ne0.false c.Counts-of.ensures no_rows c.judge_rows-rows.ensures c.if-rows-ne0.true
+    judged_stops _ _ circuit_rows _ c.if-text-gt-MOST_TEXT.false c.first_line-first.ensures c.header_refusal-in_header.ensures c.if-in_header-ne0.false c.counts_of-counts.ensures no_rows c.judge_rows-rows.ensures c.if-rows-ne0.true
 
 pub returns-then-not-ended : goal.returns-then-not-ended
 returns-then-not-ended c =
-    judged_open _ _ circuit_rows _ c.if-text-gt-MOST_TEXT.false c.first_line-first.ensures c.header_refusal-in_header.ensures c.if-in_header-ne0.false c.Counts-of.ensures no_rows c.judge_rows-rows.ensures c.if-rows-ne0.false c.ended.ensures c.if-not-ended.true
+    judged_open _ _ circuit_rows _ c.if-text-gt-MOST_TEXT.false c.first_line-first.ensures c.header_refusal-in_header.ensures c.if-in_header-ne0.false c.counts_of-counts.ensures no_rows c.judge_rows-rows.ensures c.if-rows-ne0.false c.ended.ensures c.if-not-ended.true
 
 pub returns : goal.returns
 returns c =
-    judged_body _ _ circuit_rows _ c.if-text-gt-MOST_TEXT.false c.first_line-first.ensures c.header_refusal-in_header.ensures c.if-in_header-ne0.false c.Counts-of.ensures no_rows c.judge_rows-rows.ensures c.if-rows-ne0.false c.ended.ensures c.if-not-ended.false
+    judged_body _ _ circuit_rows _ c.if-text-gt-MOST_TEXT.false c.first_line-first.ensures c.header_refusal-in_header.ensures c.if-in_header-ne0.false c.counts_of-counts.ensures no_rows c.judge_rows-rows.ensures c.if-rows-ne0.false c.ended.ensures c.if-not-ended.false

@@ -12,16 +12,16 @@ row_line-line-requires c =
     (omega arith, omega arith, omega arith, word_room _ _ _ _ _ _ _ lines c.loop-i-test.true, words_small _ _ _ _ _ _ _ lines c.loop-i-test.true)
 
 pub line_length-end-requires : goal.line_length-end-requires
-line_length-end-requires c = c.row_Line.ensures.small
+line_length-end-requires c = c.row_line-line.ensures.small
 
 pub overflow_add-end : goal.overflow_add-end
-overflow_add-end c = omega (arith, line_room _ _ _ _ _ _ _ c.loop-i.invariant c.loop-i-test.true c.row_Line.ensures.row)
+overflow_add-end c = omega (arith, line_room _ _ _ _ _ _ _ c.loop-i.invariant c.loop-i-test.true c.row_line-line.ensures.row)
 
 pub overflow_add-word : goal.overflow_add-word
 overflow_add-word c = omega (arith, word_room _ _ _ _ _ _ _ c.loop-i.invariant c.loop-i-test.true)
 
 pub loop-i-preserved : goal.loop-i-preserved
-loop-i-preserved c = lines_next _ _ _ _ _ _ _ c.loop-i.invariant c.loop-i-test.true c.row_Line.ensures.row (omega arith)
+loop-i-preserved c = lines_next _ _ _ _ _ _ _ c.loop-i.invariant c.loop-i-test.true c.row_line-line.ensures.row (omega arith)
 
 pub returns : goal.returns
 returns c = lines_last _ _ _ _ _ _ _ c.loop-i.invariant c.loop-i-test.false

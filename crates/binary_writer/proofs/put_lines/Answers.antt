@@ -13,7 +13,7 @@ row_line-line-requires c =
 
 pub put_line-end-requires : goal.put_line-end-requires
 put_line-end-requires c =
-    let line = c.row_Line.ensures in
+    let line = c.row_line-line.ensures in
     (line.small, omega (arith, line_room _ _ _ _ _ _ _ c.loop-i.invariant.lines c.loop-i-test.true line.row))
 
 pub overflow_add-word : goal.overflow_add-word
@@ -22,7 +22,7 @@ overflow_add-word c =
 
 pub loop-i-preserved : goal.loop-i-preserved
 loop-i-preserved c =
-    left_next _ _ _ _ _ _ _ c.loop-i.invariant c.loop-i-test.true c.row_Line.ensures.row c.put_line-end.ensures
+    left_next _ _ _ _ _ _ _ c.loop-i.invariant c.loop-i-test.true c.row_line-line.ensures.row c.put_line-end.ensures
 
 pub shape_of-text : goal.shape_of-text
 shape_of-text c = c.loop-i.invariant.long

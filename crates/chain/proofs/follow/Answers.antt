@@ -36,7 +36,7 @@ pub returns-then-back-count : goal.returns-then-back-count
 returns-then-back-count c =
     let t = c.loop-counts.invariant in
     let left = c.reach.ensures.1 in
-    stopped_now _ _ _ _ _ _ _ t _ (reached _ _ _ _ _ _ _ t _ left) (reached_long _ _ _ _ _ _ _ t _ _ left) _ c.Goes-to.ensures.0 c.if-back-count.true
+    stopped_now _ _ _ _ _ _ _ t _ (reached _ _ _ _ _ _ _ t _ left) (reached_long _ _ _ _ _ _ _ t _ _ left) _ c.goes_to-back.ensures.0 c.if-back-count.true
 
 pub shape_of-cubes-then-count-room : goal.shape_of-cubes-then-count-room
 shape_of-cubes-then-count-room c = kept_length _ _ _ _ _ _ _ c.loop-counts.invariant
@@ -45,7 +45,7 @@ pub returns-then-count-room : goal.returns-then-count-room
 returns-then-count-room c =
     let t = c.loop-counts.invariant in
     let left = c.reach.ensures.1 in
-    full_now _ _ _ _ _ _ _ t _ (reached _ _ _ _ _ _ _ t _ left) (reached_long _ _ _ _ _ _ _ t _ _ left) _ c.Goes-to.ensures.0 c.if-back-count.false c.if-count-room.true
+    full_now _ _ _ _ _ _ _ t _ (reached _ _ _ _ _ _ _ t _ left) (reached_long _ _ _ _ _ _ _ t _ _ left) _ c.goes_to-back.ensures.0 c.if-back-count.false c.if-count-room.true
 
 pub slice_bounds-advance-end : goal.slice_bounds-advance-end
 slice_bounds-advance-end c =
@@ -58,7 +58,7 @@ advance-progress-requires c =
     let left = c.reach.ensures.1 in
     let r = reached _ _ _ _ _ _ _ t _ left in
     let long = reached_long _ _ _ _ _ _ _ t _ _ left in
-    let gone = c.Goes-to.ensures.0 in
+    let gone = c.goes_to-back.ensures.0 in
     let on = c.if-back-count.false in
     let more = c.if-count-room.false in
     (count_small _ _ _ _ _ _ _ t _ r long _ gone on more, few_bytes _ _ _ _ _ _ _ t, next_fits_now _ _ _ _ _ _ _ t _ r long _ gone on more, omega (arith, few_bytes _ _ _ _ _ _ _ t, long), t.going.broad, t.going.wide)
@@ -73,5 +73,5 @@ pub loop-counts-preserved : goal.loop-counts-preserved
 loop-counts-preserved c =
     let t = c.loop-counts.invariant in
     let left = c.reach.ensures.1 in
-    let gone = c.Goes-to.ensures in
+    let gone = c.goes_to-back.ensures in
     turn_next _ _ _ _ _ _ _ t _ (reached _ _ _ _ _ _ _ t _ left) (reached_long _ _ _ _ _ _ _ t _ _ left) _ gone.0 c.if-back-count.false c.if-count-room.false _ _ _ c.advance-progress.ensures gone.1

@@ -1,6 +1,5 @@
 -- `chained::chain` meets its contract: refused, with no room for a cube more, or stopped. Assumes nothing.
 use mathlib.Core.Path.{sym, ◌∙◌}
-use borrow.Author.Tests.{not-true, not-false}
 use Rattle.chained.proofs.Refusing.{accepted_chain}
 use Rattle.chained.proofs.Calling.{chain_refused, chain_full, chain_stopped}
 use Rattle.cubes.proofs.Chaining.{closing}

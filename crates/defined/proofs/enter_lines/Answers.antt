@@ -1,6 +1,5 @@
 use Prim.Native.Nat.{◌-◌}
 use native.Mathlib.Omega.{arith}
-use borrow.Author.Tests.{not-true, not-false}
 use Rattle.defined.proofs.Entering.{entered_last}
 use Rattle.defined.proofs.enter_lines.Goals as goal
 

@@ -1,7 +1,6 @@
 -- `defined::judge_drawing` meets its contract: 20, 21 and 22 in turn. Assumes nothing.
 use Prim.Native.Nat.{ℕ}
 use native.Mathlib.Omega.{arith}
-use borrow.Author.Tests.{not-true, not-false}
 use lib.ListN.{length-replicate}
 use Rattle.defined.proofs.Entering.{entered_first}
 use Rattle.defined.proofs.Judging.{zeros_at, entered_when, gives_20, gives_21, gives_22, gives_none}

@@ -2,7 +2,6 @@
 use mathlib.Core.Path.{refl}
 use Prim.Native.Nat.{ℕ}
 use native.Mathlib.Omega.{arith}
-use borrow.Author.Tests.{not-true, not-false}
 use lib.ListN.{length-replicate, get_or-replicate}
 use Rattle.defined.proofs.Defining.{left_readable, right_readable}
 use Rattle.defined.proofs.Ordering.{operands, depths_ready, loops_judged, order_judged}

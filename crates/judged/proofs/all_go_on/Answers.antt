@@ -1,7 +1,6 @@
 use mathlib.Core.Path.{refl, sym}
 use Prim.Native.Nat.{◌-◌}
 use native.Mathlib.Nat.{zero-mul}
-use borrow.Author.Tests.{not-true, not-false}
 use Rattle.pass.proofs.Values.{fresh_begins}
 use Rattle.cubes.proofs.Storing.{cube_place}
 use Rattle.judge.proofs.Passing.{passing_first, begun_long, verdict_long, watched_long, both_records, passing_next}

@@ -1,5 +1,4 @@
 -- `judged::is_chain` meets its contract: j, cube 0, and each next state. Assumes nothing.
-use borrow.Author.Tests.{not-true, not-false}
 use Rattle.judged.proofs.Walking.{judgeable}
 use Rattle.judged.proofs.Finding.{beyond_found, start_found, none_walked, walked_found}
 use native.Mathlib.Omega.{arith}

@@ -4,7 +4,6 @@ use Prim.Native.Nat.{◌<◌, ◌≤◌}
 use lib.ListN.{length}
 use Rattle.three.specs.Record.{bytes_for}
 use Rattle.circuit.specs.Table.{verdicts}
-use borrow.Author.Tests.{not-true, not-false}
 use Rattle.cubes.specs.Judge.{JudgeGiven}
 use Rattle.cubes.proofs.Given.{given_passes}
 use Rattle.cubes.proofs.Promising.{promises}

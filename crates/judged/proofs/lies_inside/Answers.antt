@@ -1,5 +1,4 @@
 -- `judged::lies_inside` meets its contract: the cube is looked at where there is one. Assumes nothing.
-use borrow.Author.Tests.{not-true, not-false}
 use Rattle.judged.proofs.Walking.{then_not, then_asked}
 use Rattle.judged.proofs.lies_inside.Goals as goal
 

@@ -1,6 +1,6 @@
 -- `judged::starts` meets its contract: the resets are stored, and compared with cube 0, where there is one, both ways. Assumes nothing.
 use mathlib.Core.Path.{sym, ◌∙◌}
-use borrow.Author.Tests.{not-true, not-false, lt-ltb, le-ltb}
+use borrow.Author.Tests.{lt-ltb, le-ltb}
 use Rattle.cubes.proofs.StoredCube.{few_bytes, latch_bytes}
 use Rattle.judged.proofs.Finding.{first_cube}
 use Rattle.judged.proofs.Walking.{then_not, then_asked, same_fails, same_decided, start_inside, start_around}

@@ -7,26 +7,17 @@ use Rattle.lines.proofs.line.Goals as goal
 pub loop-k-init : goal.loop-k-init
 loop-k-init c = pieces_first _ _ _ _ _ (omega arith) refl (omega arith)
 
-pub enum_known-found : goal.enum_known-found
-enum_known-found c = c.in-Last.keys1
-
 pub returns-in-Last : goal.returns-in-Last
 returns-in-Last c =
-    pieces_last _ _ _ _ c.loop-k.invariant c.loop-k-test.true c.number_in_line-found.ensures c.found-1.given.1
-
-pub enum_known-found-in-More-1 : goal.enum_known-found-in-More-1
-enum_known-found-in-More-1 c = c.in-More.keys2
-
-pub enum_told-1 : goal.enum_told-1
-enum_told-1 c = c.in-NotInLine.keys3
+    pieces_last _ _ _ _ c.loop-k.invariant c.loop-k-test.true c.number_in_line-found.ensures c.in-Last.is
 
 pub returns-in-NotInLine : goal.returns-in-NotInLine
 returns-in-NotInLine c =
-    rw (pieces_ill _ _ _ _ c.loop-k.invariant c.loop-k-test.true c.number_in_line-found.ensures c.enum_told-1.given.1) (c.no_line.ensures _ (omega arith))
+    rw (pieces_ill _ _ _ _ c.loop-k.invariant c.loop-k-test.true c.number_in_line-found.ensures c.in-NotInLine.is) (c.no_line.ensures _ (omega arith))
 
 pub loop-k-preserved : goal.loop-k-preserved
 loop-k-preserved c =
-    pieces_more _ _ _ _ c.loop-k.invariant c.loop-k-test.true c.number_in_line-found.ensures c.found-in-More-1.given.1
+    pieces_more _ _ _ _ c.loop-k.invariant c.loop-k-test.true c.number_in_line-found.ensures c.in-More.is
 
 pub returns : goal.returns
 returns c = rw (pieces_end _ _ _ _ c.loop-k.invariant c.loop-k-test.false) (c.no_line-2.ensures _ (omega arith))

@@ -1,6 +1,5 @@
 use Prim.Native.Nat.{◌-◌}
 use mathlib.Core.Path.{sym, ◌∙◌}
-use borrow.Author.Tests.{not-true, not-false}
 use Rattle.lines.proofs.Numbers.{digit_within, digits_none, digits_first, digits_stop, digits_over, digits_next}
 use native.Mathlib.Omega.{arith}
 use Rattle.lines.proofs.number.Goals as goal

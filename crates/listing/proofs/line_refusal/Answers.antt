@@ -1,5 +1,4 @@
 -- `listing::line_refusal` meets its contract: 4, 6, then 8 or 6. Assumes nothing.
-use borrow.Author.Tests.{not-true, not-false}
 use native.Mathlib.Omega.{arith}
 use Rattle.listing.proofs.Judging.{count_stops, count_past, first_over, reset_over, latch_pass, second_over, words_pass}
 use Rattle.listing.proofs.line_refusal.Goals as goal

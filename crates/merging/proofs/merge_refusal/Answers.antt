@@ -1,7 +1,6 @@
 -- `merging::merge_refusal` meets its contract: its tests are made in the order of the list. Assumes nothing.
 use mathlib.Core.Path.{sym, ◌∙◌}
 use native.Mathlib.Omega.{arith}
-use borrow.Author.Tests.{not-true, not-false}
 use Rattle.merging.proofs.Refusing.{many_fields, a_short, b_short, a_bad, b_bad, merged_short, merge_passes}
 use Rattle.merging.proofs.merge_refusal.Goals as goal
 

@@ -6,4 +6,4 @@ use Rattle.three.proofs.Loops.{Stored}
 use Rattle.names.proofs.store_names.Given as goal
 
 abbrev pub invariant-loop-v : goal.invariant-loop-v
-invariant-loop-v l = Stored l.initial.renumbered 0 (tabulate l.count (λ l.v. get_or l.names l.v 0)) l.count l.renumbered l.v
+invariant-loop-v l = Stored l.initial.renumbered 0 (tabulate l.count (λ v'. get_or l.names v' 0)) l.count l.renumbered l.v

@@ -15,4 +15,4 @@ returns-then-entry-ne0-2 c = count_fairness _ (omega arith) (omega arith) c.entr
 pub returns : goal.returns
 returns c =
     count_ceilings _ (omega arith) (omega arith) c.entry.ensures c.if-entry-ne0.false
-    c.entry-2.ensures c.if-entry-ne0-2.false c.Counts-of.ensures c.ceiling_refusal.ensures
+    c.entry-2.ensures c.if-entry-ne0-2.false c.counts_of.ensures c.ceiling_refusal.ensures

@@ -10,4 +10,4 @@ pub returns-then-text-at-ne99 : goal.returns-then-text-at-ne99
 returns-then-text-at-ne99 c = ended_other _ _ _ (omega arith) c.if-text-at-ne99.true
 
 pub returns : goal.returns
-returns c = ended_comment _ _ _ (omega arith) c.if-text-at-ne99.false c.Ending-at.ensures
+returns c = ended_comment _ _ _ (omega arith) c.if-text-at-ne99.false c.ending_at.ensures

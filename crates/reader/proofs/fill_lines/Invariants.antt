@@ -10,5 +10,5 @@ use Rattle.reader.proofs.fill_lines.Given as goal
 
 abbrev pub invariant-loop-i : goal.invariant-loop-i
 invariant-loop-i l =
-    (own : ℕ) (f : KindFillable (circuit_lines (ending_bytes l.ending)) l.text (coded l.kind) own l.count (record { l.at = l.initial.at; l.word = l.initial.word }) l.initial.table)
+    (own : ℕ) (f : KindFillable (circuit_lines (ending_bytes l.ending)) l.text (coded l.kind) own l.count (record { at = l.initial.at; word = l.initial.word }) l.initial.table)
     → Filling (circuit_lines (ending_bytes l.ending) f.counts) l.text (coded l.kind) own l.count f.behind (stand (several (coded l.kind) own l.count f.behind) l.initial.at l.initial.word l.initial.table) l.at l.word l.i l.table

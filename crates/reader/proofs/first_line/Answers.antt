@@ -1,5 +1,4 @@
 -- `reader::first_line` meets its contract: the four bytes, and then a line. Assumes nothing.
-use borrow.Author.Tests.{not-true, not-false}
 use Rattle.reader.proofs.Opening.{opened_long, header_none, header_line}
 use native.Mathlib.Omega.{arith}
 use Rattle.reader.proofs.first_line.Goals as goal

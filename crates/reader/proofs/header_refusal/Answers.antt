@@ -8,13 +8,13 @@ pub returns-then-refused-ne0 : goal.returns-then-refused-ne0
 returns-then-refused-ne0 c = header_refused _ c.count_refusal-refused.ensures c.if-refused-ne0.true
 
 pub overflow_add-counts : goal.overflow_add-counts
-overflow_add-counts c = omega (arith, counts_bounded _ (sym c.if-refused-ne0.false ∙ c.count_refusal-refused.ensures) c.Counts-of.ensures)
+overflow_add-counts c = omega (arith, counts_bounded _ (sym c.if-refused-ne0.false ∙ c.count_refusal-refused.ensures) c.counts_of-counts.ensures)
 
 pub overflow_add-counts-2 : goal.overflow_add-counts-2
-overflow_add-counts-2 c = omega (arith, counts_bounded _ (sym c.if-refused-ne0.false ∙ c.count_refusal-refused.ensures) c.Counts-of.ensures)
+overflow_add-counts-2 c = omega (arith, counts_bounded _ (sym c.if-refused-ne0.false ∙ c.count_refusal-refused.ensures) c.counts_of-counts.ensures)
 
 pub returns-then-entry-counts : goal.returns-then-entry-counts
-returns-then-entry-counts c = header_sum _ c.count_refusal-refused.ensures c.if-refused-ne0.false c.Counts-of.ensures c.entry.ensures c.if-entry-counts.true
+returns-then-entry-counts c = header_sum _ c.count_refusal-refused.ensures c.if-refused-ne0.false c.counts_of-counts.ensures c.entry.ensures c.if-entry-counts.true
 
 pub returns : goal.returns
-returns c = header_passes _ c.count_refusal-refused.ensures c.if-refused-ne0.false c.Counts-of.ensures c.entry.ensures c.if-entry-counts.false
+returns c = header_passes _ c.count_refusal-refused.ensures c.if-refused-ne0.false c.counts_of-counts.ensures c.entry.ensures c.if-entry-counts.false

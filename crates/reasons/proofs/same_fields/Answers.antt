@@ -1,5 +1,4 @@
 use Prim.Native.Nat.{◌-◌}
-use borrow.Author.Tests.{not-true, not-false}
 use Rattle.three.proofs.Loops.{tried_first, tried_next, tried_fails, tried_all}
 use Rattle.reasons.proofs.same_fields.Goals as goal
 

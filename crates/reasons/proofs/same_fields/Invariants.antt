@@ -6,4 +6,4 @@ use Rattle.three.proofs.Loops.{Tried}
 use Rattle.reasons.proofs.same_fields.Given as goal
 
 abbrev pub invariant-loop-i : goal.invariant-loop-i
-invariant-loop-i l = Tried l.count (λ l.i. eqb (pair_at l.a l.i) (pair_at l.b l.i)) l.i
+invariant-loop-i l = Tried l.count (λ i'. eqb (pair_at l.a i') (pair_at l.b i')) l.i

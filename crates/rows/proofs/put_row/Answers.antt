@@ -6,14 +6,14 @@ use Rattle.rows.proofs.put_row.Goals as goal
 pub returns-in-Lamp : goal.returns-in-Lamp
 unfolding bytes
 returns-in-Lamp c =
-    lamp_row _ _ c.enum_told-1.given.1 c.put_verdict.ensures
+    lamp_row _ _ c.in-Lamp.is c.put_verdict.ensures
 
 pub returns-in-Bad : goal.returns-in-Bad
 unfolding bytes
 returns-in-Bad c =
-    bad_row _ _ c.enum_told-in-Bad-1.given.1 c.put_verdict-in-Bad.ensures
+    bad_row _ _ c.in-Bad.is c.put_verdict-in-Bad.ensures
 
 pub returns-in-Latch : goal.returns-in-Latch
 unfolding bytes
 returns-in-Latch c =
-    latch_row _ _ c.enum_told-in-Latch-1.given.1 c.put_item-word.ensures c.put_said.ensures
+    latch_row _ _ c.in-Latch.is c.put_item-word.ensures c.put_said.ensures

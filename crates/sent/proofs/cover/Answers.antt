@@ -5,7 +5,6 @@ use lib.ListN.{length}
 use Rattle.three.specs.Record.{bytes_for}
 use Rattle.circuit.specs.Table.{verdicts}
 use native.Mathlib.Omega.{arith}
-use borrow.Author.Tests.{not-true, not-false}
 use Rattle.sent.proofs.Refusing.{sendable}
 use Rattle.sent.proofs.Calling.{given_refused, start_refused, next_refused, verdict_refused, accepted}
 use Rattle.sent.proofs.Promising.{promises}

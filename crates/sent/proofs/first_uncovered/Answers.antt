@@ -1,7 +1,6 @@
 use Prim.Native.Nat.{◌-◌}
 use mathlib.Core.Path.{refl, sym}
 use native.Mathlib.Nat.{zero-mul}
-use borrow.Author.Tests.{not-true, not-false}
 use Rattle.pass.proofs.Values.{fresh_begins}
 use Rattle.cubes.proofs.Storing.{cube_place}
 use Rattle.sent.proofs.Walking.{of_length}

@@ -1,7 +1,6 @@
 -- `stored::cubes_refusal` meets its contract: its tests are made in the order of the list. Assumes nothing.
 use mathlib.Core.Path.{sym, ◌∙◌}
 use native.Mathlib.Omega.{arith}
-use borrow.Author.Tests.{not-true, not-false}
 use Rattle.cubes.proofs.StoredCube.{some_bytes}
 use Rattle.cubes.proofs.Given.{cubes_short, cubes_bad, cubes_pass, cubes_fit, room_is}
 use Rattle.stored.proofs.cubes_refusal.Goals as goal

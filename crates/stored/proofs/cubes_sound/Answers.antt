@@ -1,6 +1,5 @@
 use Prim.Native.Nat.{◌-◌}
 use Rattle.three.proofs.Loops.{tried_first, tried_next, tried_fails, tried_all}
-use borrow.Author.Tests.{not-true, not-false}
 use Rattle.stored.proofs.Judged.{judged_place, judged_cube}
 use native.Mathlib.Omega.{arith}
 use Rattle.stored.proofs.cubes_sound.Goals as goal

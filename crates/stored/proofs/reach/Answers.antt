@@ -21,4 +21,4 @@ pub returns : goal.returns
 returns c =
     let pre = c.requires in
     let settled = state_settles _ _ _ _ _ pre.3 c.settle_state.ensures in
-    (ready_again _ _ _ _ settled, reach_stored _ _ pre.0 _ (length_unpack _ _) _ settled _ _ _ _ _ c.cube_bytes.ensures c.store.ensures c.store-Kept.ensures)
+    (ready_again _ _ _ _ settled, reach_stored _ _ pre.0 _ (length_unpack _ _) _ settled _ _ _ _ _ c.cube_bytes.ensures c.store.ensures c.store_kept.ensures)

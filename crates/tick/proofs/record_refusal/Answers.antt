@@ -1,7 +1,6 @@
 -- `tick::record_refusal` meets its contract: its tests are made in the order of the list. Assumes nothing.
 use mathlib.Core.Path.{sym, ◌∙◌}
 use native.Mathlib.Omega.{arith}
-use borrow.Author.Tests.{not-true, not-false}
 use Rattle.tick.proofs.Ticking.{state_short, switches_short, state_bad, switches_bad, records_pass}
 use Rattle.tick.proofs.record_refusal.Goals as goal
 

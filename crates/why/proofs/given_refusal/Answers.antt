@@ -1,7 +1,6 @@
 -- `why::given_refusal` meets its contract: its tests are made in the order of the list. Assumes nothing.
 use mathlib.Core.Path.{sym, ◌∙◌}
 use native.Mathlib.Omega.{arith}
-use borrow.Author.Tests.{not-true, not-false}
 use Rattle.asked.proofs.Refusing.{state_short, state_bad, no_lamp, given_passes}
 use Rattle.why.proofs.given_refusal.Goals as goal
 

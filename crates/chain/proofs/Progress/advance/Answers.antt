@@ -9,6 +9,6 @@ returns c =
     record {
       counts = refl;
       holds = c.held_after.ensures ∙ due_held _ _ _ _ c.due-d.ensures;
-      keeps = c.store-Kept.ensures;
+      keeps = c.store_kept.ensures;
       stores = stored_marked c.args.cubes.now _ (c.args.t1.count * c.args.len) c.args.len _ c.store_cube.ensures c.mark.ensures c.due-d.ensures;
     }
