@@ -36,7 +36,10 @@ take_sets l i vs h =
 
 pub length_shown : (k : Kind) (ns : List ℕ) → length (shown_own k ns) ≡ shown_by k
 unfolding shown_own shown_by
-length_shown k ns = elim k [ input own ↦ refl | latch own ↦ refl | gate own ↦ refl | literal ↦ refl ]
+length_shown (input own) ns = refl
+length_shown (latch own) ns = refl
+length_shown (gate own) ns = refl
+length_shown literal ns = refl
 
 pub lamp_shown : {k : ℕ} → k ≡ 2 → shown_by (coded k 0) ≡ 0
 unfolding shown_by
@@ -71,4 +74,7 @@ words_fit {most = most} k ns f z = record {
 
 pub no_numbers : (k : Kind) → fits k 0 ≡ false
 unfolding fits
-no_numbers k = elim k [ input own ↦ refl | latch own ↦ refl | gate own ↦ refl | literal ↦ refl ]
+no_numbers (input own) = refl
+no_numbers (latch own) = refl
+no_numbers (gate own) = refl
+no_numbers literal = refl

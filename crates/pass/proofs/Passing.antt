@@ -74,7 +74,7 @@ module _ (words : List ℕ) (at first count : ℕ) where
 pass_append : {A : Type 0} (logic : Logic A) (vs : List A) (gs hs : List Gate) → pass logic vs (gs ++ hs) ≡ pass logic (pass logic vs gs) hs
 unfolding pass
 pass_append logic vs [] hs = refl
-pass_append logic vs (g ∷ gs) hs = pass_append logic _ gs hs
+pass_append logic vs (g ∷ gs) hs = pass_append logic (vs ++ logic.and (value logic vs g.left) (value logic vs g.right) ∷ []) gs hs
 
 module _ (words : List ℕ) (at first : ℕ) where
   pub passed_none : (vs : List Three) → vs ≡ passed words at first 0 vs

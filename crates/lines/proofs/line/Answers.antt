@@ -1,4 +1,3 @@
-use Prim.Native.Nat.{◌-◌}
 use mathlib.Core.Path.{refl}
 use Rattle.lines.proofs.Finding.{pieces_first, pieces_end, pieces_ill, pieces_last, pieces_more}
 use native.Mathlib.Omega.{arith}

@@ -1,5 +1,4 @@
 -- `lines::line` meets its contract: each number is found in turn, as `Pieces` says. Assumes nothing.
-use Prim.Native.Nat.{◌-◌}
 use Rattle.lines.specs.LinesInCode.{ending_bytes}
 use Rattle.lines.proofs.Finding.{Pieces}
 use Rattle.lines.proofs.line.Given as goal

@@ -1,4 +1,3 @@
-use Prim.Native.Nat.{◌-◌}
 use mathlib.Core.Path.{sym, ◌∙◌}
 use Rattle.lines.proofs.Numbers.{digit_within, digits_none, digits_first, digits_stop, digits_over, digits_next}
 use native.Mathlib.Omega.{arith}

@@ -1,5 +1,5 @@
 use mathlib.Core.Path.{◌≡◌}
-use Prim.Native.Nat.{◌*◌, ◌-◌}
+use Prim.Native.Nat.{◌*◌}
 use Rattle.pass.proofs.Passing.{room, passed_none, gateable_part, holding_part}
 use native.Mathlib.Omega.{arith}
 use Rattle.pass.proofs.gate_bytes.Goals as goal

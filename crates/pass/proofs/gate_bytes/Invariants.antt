@@ -1,5 +1,5 @@
 -- `pass::gate_bytes` meets its contract: four gates more at each turn. Assumes nothing.
-use Prim.Native.Nat.{◌*◌, ◌-◌, ◌≤◌}
+use Prim.Native.Nat.{◌*◌, ◌≤◌}
 use Rattle.pass.specs.ValuesInCode.{Holding, values_of, passed}
 use Rattle.pass.proofs.gate_bytes.Given as goal
 

@@ -1,4 +1,3 @@
-use Prim.Native.Nat.{◌-◌}
 use Rattle.three.proofs.Filling.{is_small, is_decoded}
 use Rattle.pass.proofs.Passing.{turn_first, turn_next, turn_last, room}
 use native.Mathlib.Omega.{arith}

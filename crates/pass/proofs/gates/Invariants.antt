@@ -1,5 +1,4 @@
 -- `pass::gates` meets its contract: each gate is taken in turn, as `Turn` says. Assumes nothing.
-use Prim.Native.Nat.{◌-◌}
 use Rattle.pass.specs.ValuesInCode.{Working, values_of}
 use Rattle.pass.proofs.Passing.{Turn}
 use Rattle.pass.proofs.gates.Given as goal

@@ -1,4 +1,3 @@
-use Prim.Native.Nat.{◌-◌}
 use Rattle.three.proofs.Loops.{stored_first, stored_last}
 use Rattle.pass.proofs.Values.{field_small, load_next}
 use native.Mathlib.Omega.{arith}

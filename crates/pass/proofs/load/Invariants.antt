@@ -1,5 +1,4 @@
 -- `pass::load` meets its contract: the fields are stored in turn. Assumes nothing.
-use Prim.Native.Nat.{◌-◌}
 use Rattle.three.specs.Record.{unpack}
 use Rattle.three.proofs.Loops.{Stored}
 use Rattle.pass.specs.ValuesInCode.{Working, values_of}

@@ -1,5 +1,4 @@
 -- `pass::store` meets its contract: its bytes are stored in turn. Assumes nothing.
-use Prim.Native.Nat.{◌-◌}
 use Rattle.three.specs.Record.{bytes_for, pack}
 use Rattle.three.proofs.Loops.{Stored}
 use Rattle.pass.specs.ValuesInCode.{values_of, literal_values}
