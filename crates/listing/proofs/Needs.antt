@@ -12,7 +12,6 @@ use Rattle.three.proofs.Lists.{by_test}
 use Rattle.circuit.specs.Refusal.{refusal}
 use Rattle.circuit.specs.Table.{Kind, input, latch, literal, gate}
 use Rattle.circuit.proofs.Refusals.{passes}
-use Rattle.text.specs.Part.{got}
 use Rattle.text.specs.Line.{read_line}
 use Rattle.text.specs.Text.{fits, words, shown_own}
 use Rattle.text.specs.KindsInCode.{coded}
@@ -24,7 +23,7 @@ use Rattle.lines.proofs.Finding.{line_length, line_got}
 use Rattle.reader.specs.ReaderInCode.{WordsFit}
 use Rattle.drawn.specs.Lines.{any_tests}
 use Rattle.drawn.proofs.Reading.{any_numbered, words_small}
-use Rattle.listing.specs.ListingInCode.{shown_by, worded, Stand, behind, Listable}
+use Rattle.listing.specs.ListingInCode.{shown_by, worded, Stand, Listable}
 use Rattle.listing.proofs.Judging.{lamp_shows, other_shows}
 
 -- ---- a list stored behind what is taken

@@ -11,7 +11,7 @@ ghost use Rattle.circuit.specs.Refusal.{refusal};
 ghost use Rattle.circuit.specs.Table.{constraints_at, circuit_of};
 ghost use Rattle.circuit.specs.RulesInCode.{Bounded, Legal};
 ghost use Rattle.pass.specs.ValuesInCode.{values_of, Working, literal_values};
-ghost use Rattle.cubes.specs.Run.{next_cube, some_low, blocked as isBlocked, start as start_of};
+ghost use Rattle.cubes.specs.Run.{next_cube, some_low, blocked as is_blocked, start as start_of};
 ghost use Rattle.cubes.specs.Buffer.{cube_bytes, cube_of, sound_cube, sound_in};
 ghost use Rattle.cubes.specs.BufferInCode.{longest_cube, IsCube, raised_byte, lowered_byte};
 ghost use Rattle.cubes.specs.HeldInCode.{kept_byte};
@@ -217,7 +217,7 @@ fn constraint_low(counts: Counts, table: &[u16], values: &Values) -> bool
 // Some constraint is 0 in a cube whose latches are given as a record, with all switches X; where there is none no pass is made.
 pub fn blocked(counts: Counts, table: &[u16], latches: &[u8], values: &mut Values) -> bool
     requires { Legal counts table.now × IsRecord counts.latches latches.now × SwitchesX counts values.old }
-    ensures { (result ≡ isBlocked (circuit_of counts table.now) (unpack counts.latches latches.now)) × SwitchesX counts values.new }
+    ensures { (result ≡ is_blocked (circuit_of counts table.now) (unpack counts.latches latches.now)) × SwitchesX counts values.new }
 {
     if counts.constraints == 0 {
         return false;
@@ -229,7 +229,7 @@ pub fn blocked(counts: Counts, table: &[u16], latches: &[u8], values: &mut Value
 // Some constraint is 0 in cube 0.
 pub fn start_blocked(counts: Counts, table: &[u16]) -> bool
     requires { Legal counts table.now }
-    ensures { result ≡ isBlocked (circuit_of counts table.now) (start_of (circuit_of counts table.now)) }
+    ensures { result ≡ is_blocked (circuit_of counts table.now) (start_of (circuit_of counts table.now)) }
 {
     if counts.constraints == 0 {
         return false;

@@ -1,12 +1,11 @@
 use mathlib.Core.Path.{refl}
-use Prim.Native.Nat.{◌-◌}
 use native.Mathlib.Omega.{arith}
 use Rattle.reader.proofs.Filling.{filling_first, filling_fits, filling_next, filling_last}
 use Rattle.binary_reader.proofs.Filling.{gate_turn}
 use Rattle.binary_reader.proofs.fill_gates.Goals as goal
 
 pub loop-i-init : goal.loop-i-init
-loop-i-init c = filling_first f.all refl
+loop-i-init c = λ f. filling_first f.all refl
 
 pub fill_gate-word-requires : goal.fill_gate-word-requires
 fill_gate-word-requires c =

@@ -1,5 +1,4 @@
 -- `binary_reader::fill_gates` meets its contract: two words for each gate, as `Filling` says. Assumes nothing.
-use Prim.Native.Nat.{◌-◌}
 use Rattle.circuit.specs.Table.{gate, several}
 use Rattle.reader.specs.ReaderInCode.{stand, KindFillable}
 use Rattle.reader.proofs.Filling.{Filling}

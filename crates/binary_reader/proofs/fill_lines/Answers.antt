@@ -1,5 +1,4 @@
 use mathlib.Core.Path.{refl}
-use Prim.Native.Nat.{◌-◌}
 use native.Mathlib.Omega.{arith}
 use Rattle.text.proofs.Coding.{words_alike}
 use Rattle.reader.proofs.Filling.{filling_first, filling_fits, filling_next, filling_last}
@@ -7,7 +6,7 @@ use Rattle.binary_reader.proofs.Filling.{line_turn}
 use Rattle.binary_reader.proofs.fill_lines.Goals as goal
 
 pub loop-i-init : goal.loop-i-init
-loop-i-init c = filling_first f.all refl
+loop-i-init c = λ f. filling_first f.all refl
 
 pub row_line-found-requires : goal.row_line-found-requires
 row_line-found-requires c = let turn = c.loop-i.invariant c.requires.3 in omega arith

@@ -1,5 +1,4 @@
 -- `binary_reader::fill_lines` meets its contract: the words of each line in turn, as `Filling` says. Assumes nothing.
-use Prim.Native.Nat.{◌-◌}
 use Rattle.circuit.specs.Table.{several}
 use Rattle.text.specs.KindsInCode.{coded}
 use Rattle.reader.specs.ReaderInCode.{stand, KindFillable}

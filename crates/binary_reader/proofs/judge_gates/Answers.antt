@@ -1,11 +1,10 @@
-use Prim.Native.Nat.{◌-◌}
 use native.Mathlib.Omega.{arith}
 use Rattle.reader.proofs.Bodies.{turns_first, turns_next, turns_stop, turns_last}
 use Rattle.binary_reader.proofs.Judging.{gate_judged}
 use Rattle.binary_reader.proofs.judge_gates.Goals as goal
 
 pub loop-i-init : goal.loop-i-init
-loop-i-init c = turns_first _ _ _ _ _ _ (omega arith)
+loop-i-init c = λ most. turns_first _ _ _ _ _ _ (omega arith)
 
 pub returns-then-row-ne0 : goal.returns-then-row-ne0
 returns-then-row-ne0 c =

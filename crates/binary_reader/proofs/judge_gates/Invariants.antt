@@ -1,5 +1,5 @@
 -- `binary_reader::judge_gates` meets its contract: each gate is judged in turn, as `Turns` says. Assumes nothing.
-use Prim.Native.Nat.{ℕ, ◌-◌}
+use Prim.Native.Nat.{ℕ}
 use Rattle.circuit.specs.Table.{gate}
 use Rattle.reader.proofs.Bodies.{Turns}
 use Rattle.binary.specs.Binary.{read_rows}

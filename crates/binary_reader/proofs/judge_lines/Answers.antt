@@ -1,4 +1,3 @@
-use Prim.Native.Nat.{◌-◌}
 use native.Mathlib.Omega.{arith}
 use Rattle.reader.proofs.Bodies.{turns_first, turns_next, turns_stop, turns_last}
 use Rattle.binary_reader.proofs.judge_lines.Goals as goal

@@ -1,5 +1,4 @@
 -- `binary_reader::judge_lines` meets its contract: each line is judged in turn, as `Turns` says. Assumes nothing.
-use Prim.Native.Nat.{◌-◌}
 use Rattle.text.specs.KindsInCode.{coded}
 use Rattle.reader.proofs.Bodies.{Turns}
 use Rattle.binary.specs.Binary.{read_rows}

@@ -1,4 +1,3 @@
-use Prim.Native.Nat.{◌-◌}
 use native.Mathlib.Omega.{arith}
 use Rattle.binary_writer.proofs.PuttingGates.{counted_first, counted_next, counted_last, counted_room}
 use Rattle.binary_writer.proofs.count_gates.Goals as goal

@@ -1,5 +1,4 @@
 -- `binary_writer::count_gates` meets its contract: gate behind gate. Assumes nothing.
-use Prim.Native.Nat.{◌-◌}
 use Rattle.binary_writer.proofs.PuttingGates.{Counted}
 use Rattle.binary_writer.proofs.count_gates.Given as goal
 

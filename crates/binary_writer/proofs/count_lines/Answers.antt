@@ -1,4 +1,3 @@
-use Prim.Native.Nat.{◌-◌}
 use native.Mathlib.Omega.{arith}
 use Rattle.writer.proofs.WrittenLines.{lines_first, lines_next, lines_last, word_room, words_small, line_room}
 use Rattle.binary_writer.proofs.count_lines.Goals as goal

@@ -1,5 +1,4 @@
 -- `binary_writer::count_lines` meets its contract: line behind line, as `LinesLeft` says. Assumes nothing.
-use Prim.Native.Nat.{◌-◌}
 use Rattle.binary.specs.Binary.{row_bytes}
 use Rattle.writer.proofs.WrittenLines.{LinesLeft}
 use Rattle.binary_writer.proofs.count_lines.Given as goal

@@ -1,4 +1,3 @@
-use Prim.Native.Nat.{◌-◌}
 use native.Mathlib.Omega.{arith}
 use Rattle.binary_writer.proofs.PuttingGates.{put_first, put_next, put_last, counted_room}
 use Rattle.binary_writer.proofs.put_gates.Goals as goal

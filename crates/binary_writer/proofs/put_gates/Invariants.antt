@@ -1,5 +1,4 @@
 -- `binary_writer::put_gates` meets its contract: gate behind gate. Assumes nothing.
-use Prim.Native.Nat.{◌-◌}
 use Rattle.binary_writer.proofs.PuttingGates.{Filled}
 use Rattle.binary_writer.proofs.put_gates.Given as goal
 

@@ -1,4 +1,3 @@
-use Prim.Native.Nat.{◌-◌}
 use native.Mathlib.Omega.{arith}
 use Rattle.writer.proofs.WrittenLines.{left_first, left_next, left_last, word_room, words_small, line_room}
 use Rattle.binary_writer.proofs.put_lines.Goals as goal

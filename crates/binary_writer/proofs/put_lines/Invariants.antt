@@ -1,5 +1,4 @@
 -- `binary_writer::put_lines` meets its contract: line behind line, as `PutLeft` says. Assumes nothing.
-use Prim.Native.Nat.{◌-◌}
 use Rattle.binary.specs.Binary.{row_bytes}
 use Rattle.writer.proofs.WrittenLines.{PutLeft}
 use Rattle.binary_writer.proofs.put_lines.Given as goal

@@ -24,7 +24,7 @@ returns-then-blocked c =
 pub store_cube-requires : goal.store_cube-requires
 store_cube-requires c =
     let size = c.cube_bytes-len.ensures in
-    (omega (arith, size, few_bytes c.requires.0.bounded.latches, slice_aggregate_store_cube c), omega (arith, size, c.requires.1))
+    (omega (arith, size, few_bytes c.requires.0.bounded.latches), omega (arith, size, c.requires.1))
 
 pub nonzero_div-room : goal.nonzero_div-room
 nonzero_div-room c = omega (arith, c.cube_bytes-len.ensures, some_bytes c.args.counts.latches)

@@ -1,5 +1,5 @@
 -- `defined::all_known` meets its contract: each literal is asked in turn. Assumes nothing.
-use Prim.Native.Nat.{◌+◌, ◌*◌, ◌-◌}
+use Prim.Native.Nat.{◌+◌, ◌*◌}
 use lib.ListN.{get_or}
 use Rattle.three.proofs.Loops.{Tried}
 use Rattle.drawn.specs.Drawing.{Drawing, lines, defined}

@@ -1,4 +1,3 @@
-use Prim.Native.Nat.{◌-◌}
 use native.Mathlib.Omega.{arith}
 use Rattle.defined.proofs.Entering.{entered_last}
 use Rattle.defined.proofs.enter_lines.Goals as goal

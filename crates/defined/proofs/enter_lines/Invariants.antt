@@ -1,6 +1,5 @@
 -- `defined::enter_lines` meets its contract: each line is entered in turn. Assumes nothing.
 use mathlib.Core.List.{[]}
-use Prim.Native.Nat.{◌-◌}
 use Rattle.defined.specs.Places.{held, Entered}
 use Rattle.defined.proofs.enter_lines.Given as goal
 

@@ -1,5 +1,5 @@
 use mathlib.Core.Path.{◌∙◌}
-use Prim.Native.Nat.{ℕ, ◌-◌}
+use Prim.Native.Nat.{ℕ}
 use native.Mathlib.Omega.{arith}
 use lib.ListN.{length-set}
 use Rattle.defined.proofs.Knowing.{sourced_first, sourced_next, sourced_last}

@@ -1,6 +1,5 @@
 -- `defined::find_sources` meets its contract: each operand in turn. Assumes nothing.
 use mathlib.Core.Path.{◌≡◌}
-use Prim.Native.Nat.{◌-◌}
 use lib.ListN.{length}
 use Rattle.drawn.specs.Drawing.{Drawing, leaves as leaves_of, lines}
 use Rattle.defined.specs.Places.{Entered, Sourced}

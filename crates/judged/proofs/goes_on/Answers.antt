@@ -18,7 +18,7 @@ lies_inside-requires c =
     let pre = c.requires in
     let size = c.cube_bytes.ensures in
     let few = few_bytes pre.0.bounded.latches in
-    (λ is. omega (arith, (pre.3 is).0, size), omega (arith, few, size), omega (arith, few, size, slice_aggregate_lies_inside c))
+    (λ is. omega (arith, (pre.3 is).0, size), omega (arith, few, size), omega (arith, few, size))
 
 pub returns-then-lies_inside : goal.returns-then-lies_inside
 returns-then-lies_inside c =

@@ -49,7 +49,7 @@ write_results-s-requires c =
     let room : bytes_for c.args.counts.latches ≤ length c.args.settled.now = omega (arith, c.record_length-2.ensures) in
     let given : JudgeGiven = record { counts = c.args.counts; table = c.args.table.now; cubes = c.args.cubes.now; n = c.args.n; j = c.args.j; verdict = c.args.verdict.now; settled = c.args.settled.now } in
     let within = chain_within given c.given_refusal-number.ensures c.if-number-ne0.false c.is_chain.ensures c.if-not-is_chain.false in
-    (are.0.bounded, are.1, within, omega (arith, are.0.bounded, slice_aggregate_write_results c), fits, room)
+    (are.0.bounded, are.1, within, omega (arith, are.0.bounded), fits, room)
 
 pub returns : goal.returns
 returns c =

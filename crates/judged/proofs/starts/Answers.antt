@@ -19,7 +19,7 @@ subsumes-requires c =
     let size = c.cube_bytes-len.ensures in
     let few = few_bytes c.requires.0.bounded.latches in
     let cube = first_cube _ _ _ c.requires.1 (omega arith) in
-    (omega (arith, size, cube.fits), omega (arith, few, size), omega (arith, few, size, slice_aggregate_subsumes c))
+    (omega (arith, size, cube.fits), omega (arith, few, size), omega (arith, few, size))
 
 pub returns-then-not-subsumes : goal.returns-then-not-subsumes
 returns-then-not-subsumes c =
@@ -31,13 +31,13 @@ pub marked-around-requires : goal.marked-around-requires
 marked-around-requires c =
     let size = c.cube_bytes-len.ensures in
     let few = few_bytes c.requires.0.bounded.latches in
-    (omega (arith, few, size), omega (arith, few, size, slice_aggregate_marked c))
+    (omega (arith, few, size), omega (arith, few, size))
 
 pub covers-requires : goal.covers-requires
 covers-requires c =
     let size = c.cube_bytes-len.ensures in
     let cube = first_cube _ _ _ c.requires.1 (omega arith) in
-    (omega (arith, few_bytes c.requires.0.bounded.latches, size, slice_aggregate_covers c), omega (arith, size, cube.fits))
+    (omega (arith, few_bytes c.requires.0.bounded.latches, size), omega (arith, size, cube.fits))
 
 pub returns : goal.returns
 returns c =

@@ -6,7 +6,7 @@ use Rattle.listing.proofs.list_line.Goals as goal
 
 pub returns-then-number-ne0 : goal.returns-then-number-ne0
 returns-then-number-ne0 c =
-    line_refused _ _ _ _ own c.requires c.line-found.ensures c.line_refusal-number.ensures c.if-number-ne0.true
+    λ own. line_refused _ _ _ _ own c.requires c.line-found.ensures c.line_refusal-number.ensures c.if-number-ne0.true
 
 pub keep_own-next_line-requires : goal.keep_own-next_line-requires
 keep_own-next_line-requires c =
@@ -23,4 +23,4 @@ returns c =
     let room = c.requires in
     let owns = c.keep_own-next_line.ensures in
     let words = c.fill_line-next_word.ensures in
-    line_kept _ _ _ _ own room c.line-found.ensures (let number = c.line_refusal-number.ensures in omega arith) room.owns_room room.words_room owns.0 words.0 owns.1 words.1
+    λ own. line_kept _ _ _ _ own room c.line-found.ensures (let number = c.line_refusal-number.ensures in omega arith) room.owns_room room.words_room owns.0 words.0 owns.1 words.1

@@ -1,5 +1,4 @@
 use mathlib.Core.Path.{◌∙◌}
-use Prim.Native.Nat.{◌-◌}
 use native.Mathlib.Omega.{arith}
 use Rattle.listing.proofs.Turning.{turns_first, turns_room, turns_stop, turns_next, turns_last}
 use Rattle.listing.proofs.list_lines.Goals as goal

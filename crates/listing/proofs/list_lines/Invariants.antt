@@ -1,5 +1,4 @@
 -- `listing::list_lines` meets its contract: line by line, as `Turns` says. Assumes nothing.
-use Prim.Native.Nat.{◌-◌}
 use Rattle.text.specs.KindsInCode.{coded}
 use Rattle.lines.specs.LinesInCode.{ending_bytes}
 use Rattle.listing.specs.ListingInCode.{shown_by, worded, stand}

@@ -22,5 +22,5 @@ returns c =
     let names = c.name_lines.ensures in
     let all = names.1 _ (judged_proper _ _ _ _ _ pre.0) (of_drawing _ _ _ _ _ pre.0) in (
       table_left _ _ _ _ _ pre.0 pre.1 pre.2 pre.3 _ names.0 all _ c.fill_table.ensures,
-      list_left _ _ _ _ _ pre.0 pre.1 pre.2 pre.3 c.name_lines.new.1.1.1.1.0 names.0 all _ c.store_names.ensures,
+      list_left _ _ _ _ _ pre.0 pre.1 pre.2 pre.3 c.name_lines.new.names names.0 all _ c.store_names.ensures,
     )

@@ -1,5 +1,4 @@
 -- `names::fill_table` meets its contract: its words are stored in turn. Assumes nothing.
-use Prim.Native.Nat.{◌-◌}
 use Rattle.three.proofs.Loops.{Stored}
 use Rattle.circuit.specs.Table.{table_length}
 use Rattle.names.specs.Tabling.{table_by}

@@ -1,5 +1,5 @@
 use mathlib.Core.Path.{◌∙◌}
-use Prim.Native.Nat.{ℕ, ◌+◌, ◌-◌, ◌/◌}
+use Prim.Native.Nat.{ℕ, ◌+◌, ◌/◌}
 use native.Mathlib.Omega.{arith}
 use lib.ListN.{length-set}
 use Rattle.names.proofs.Marking.{line_by_small, name_room, marked_first, marked_next, marked_last}

@@ -1,6 +1,6 @@
 -- `names::name_lines` meets its contract: each number in turn. Assumes nothing.
 use mathlib.Core.Path.{◌≡◌}
-use Prim.Native.Nat.{◌+◌, ◌-◌, ◌≤◌}
+use Prim.Native.Nat.{◌+◌, ◌≤◌}
 use lib.ListN.{length}
 use Rattle.drawn.specs.Drawing.{Drawing}
 use Rattle.drawn.proofs.Proper.{Proper}

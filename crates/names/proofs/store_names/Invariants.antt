@@ -1,5 +1,4 @@
 -- `names::store_names` meets its contract: number by number. Assumes nothing.
-use Prim.Native.Nat.{◌-◌}
 use lib.ListN.{get_or}
 use Rattle.three.specs.Lists.{tabulate}
 use Rattle.three.proofs.Loops.{Stored}

@@ -1,12 +1,11 @@
 use mathlib.Core.Path.{refl}
-use Prim.Native.Nat.{◌-◌}
 use native.Mathlib.Omega.{arith}
 use Rattle.text.proofs.Coding.{words_alike}
 use Rattle.reader.proofs.Filling.{line_turn, filling_first, filling_fits, filling_next, filling_last}
 use Rattle.reader.proofs.fill_lines.Goals as goal
 
 pub loop-i-init : goal.loop-i-init
-loop-i-init c = filling_first f.all refl
+loop-i-init c = λ own f. filling_first f.all refl
 
 pub line-found-requires : goal.line-found-requires
 line-found-requires c = let pre = c.requires in let turn = c.loop-i.invariant pre.0 pre.1 in omega arith

@@ -1,5 +1,5 @@
 -- `reader::fill_lines` meets its contract: the words of each line in turn, as `Filling` says. Assumes nothing.
-use Prim.Native.Nat.{ℕ, ◌-◌}
+use Prim.Native.Nat.{ℕ}
 use Rattle.circuit.specs.Table.{several}
 use Rattle.text.specs.Text.{circuit_lines}
 use Rattle.text.specs.KindsInCode.{coded}

@@ -1,5 +1,4 @@
 -- `reader::judge_lines` meets its contract: each line is judged in turn, as `Turns` says. Assumes nothing.
-use Prim.Native.Nat.{◌-◌}
 use Rattle.text.specs.Text.{line_tests, read_lines}
 use Rattle.text.specs.KindsInCode.{coded}
 use Rattle.lines.specs.LinesInCode.{ending_bytes}

@@ -1,5 +1,4 @@
 use mathlib.Core.Path.{refl, sym, ◌∙◌}
-use Prim.Native.Nat.{◌-◌}
 use borrow.Author.Tests.{eq-eqb, ne_eqb}
 use Rattle.three.proofs.Loops.{tried_first, tried_next, tried_fails, tried_all}
 use Rattle.reader.proofs.Opening.{opened_short, opened_alike}

@@ -1,5 +1,4 @@
 -- `reader::opens` meets its contract: each byte is tried in turn. Assumes nothing.
-use Prim.Native.Nat.{◌-◌}
 use lib.Dec.{eqb}
 use lib.ListN.{get_or}
 use Rattle.three.proofs.Loops.{Tried}

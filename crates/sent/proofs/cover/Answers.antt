@@ -47,7 +47,7 @@ returns-then-verdict-len c =
 pub copy_record-requires : goal.copy_record-requires
 copy_record-requires c =
     let s = sendable _ _ _ _ (sym c.if-number-ne0.false ∙ c.given_refusal-number.ensures) in
-    (omega (arith, s.legal.bounded, c.verdicts.ensures, slice_aggregate_copy_record c), omega arith)
+    (omega (arith, s.legal.bounded, c.verdicts.ensures), omega arith)
 
 pub returns : goal.returns
 returns c =

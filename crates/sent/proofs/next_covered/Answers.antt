@@ -15,7 +15,7 @@ pub find-requires : goal.find-requires
 find-requires c =
     let pre = c.requires in
     let short = len_few _ _ _ _ _ pre.0 in
-    (pre.0.stand.fits, short, omega (arith, short, slice_aggregate_find c))
+    (pre.0.stand.fits, short, omega (arith, short))
 
 pub returns-then-find-n : goal.returns-then-find-n
 returns-then-find-n c =

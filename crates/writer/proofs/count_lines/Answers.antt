@@ -1,5 +1,4 @@
 use Rattle.writer.proofs.WrittenLines.{lines_first, word_room, words_small, line_room, lines_next, lines_last}
-use Prim.Native.Nat.{◌-◌}
 use native.Mathlib.Omega.{arith}
 use Rattle.writer.proofs.count_lines.Goals as goal
 

@@ -1,6 +1,5 @@
 -- `writer::count_lines` meets its contract: line by line, what is left makes it the whole. Assumes nothing.
 use Rattle.writer.proofs.WrittenLines.{LinesLeft}
-use Prim.Native.Nat.{◌-◌}
 use Rattle.text.specs.Text.{line_of}
 use Rattle.writer.proofs.count_lines.Given as goal
 

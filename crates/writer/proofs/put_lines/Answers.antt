@@ -1,5 +1,4 @@
 use Rattle.writer.proofs.WrittenLines.{left_first, word_room, words_small, line_room, left_next, left_last}
-use Prim.Native.Nat.{◌-◌}
 use native.Mathlib.Omega.{arith}
 use Rattle.writer.proofs.put_lines.Goals as goal
 

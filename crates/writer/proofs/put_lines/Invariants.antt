@@ -1,6 +1,5 @@
 -- `writer::put_lines` meets its contract: line by line, what is left makes it the whole. Assumes nothing.
 use Rattle.writer.proofs.WrittenLines.{PutLeft}
-use Prim.Native.Nat.{◌-◌}
 use Rattle.text.specs.Text.{line_of}
 use Rattle.writer.proofs.put_lines.Given as goal
 

@@ -10,5 +10,5 @@ returns c =
       counts = refl;
       holds = c.held_after.ensures ∙ due_held _ _ _ _ c.due-d.ensures;
       keeps = c.store_kept.ensures;
-      stores = stored_marked c.args.cubes.now _ (c.args.t1.count * c.args.len) c.args.len _ c.store_cube.ensures c.mark.ensures c.due-d.ensures;
+      stores = stored_marked c.args.cubes.now _ (c.args.self.count * c.args.len) c.args.len _ c.store_cube.ensures c.mark.ensures c.due-d.ensures;
     }
