@@ -9,7 +9,7 @@ use borrow.Author.Tests.{ltb-true}
 use lib.Dec.{ltb}
 use lib.ListN.{length, get_or, drop, replicate}
 use lib.Seq.{paste}
-use Rattle.three.specs.Lists.{every, over}
+use Rattle.three.specs.Lists.{over}
 use Rattle.three.specs.Cube.{Cube, subsumes}
 use Rattle.three.specs.Record.{bytes_for, byte_at, pack}
 use Rattle.three.proofs.Lists.{every_all, every_fails}

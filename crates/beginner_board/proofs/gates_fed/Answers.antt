@@ -1,6 +1,4 @@
-use Prim.Native.Nat.{◌-◌}
 use Rattle.three.proofs.Loops.{tried_first, tried_next, tried_fails, tried_all}
-use Rattle.beginners.specs.Rules.{well_fed}
 use Rattle.beginner_board.proofs.gates_fed.Goals as goal
 
 pub loop-i-init : goal.loop-i-init

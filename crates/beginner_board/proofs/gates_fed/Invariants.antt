@@ -1,5 +1,5 @@
 -- `beginner_board::gates_fed` meets its contract: each gate is tried in turn. Assumes nothing.
-use Prim.Native.Nat.{◌+◌, ◌*◌, ◌-◌}
+use Prim.Native.Nat.{◌+◌, ◌*◌}
 use lib.ListN.{get_or}
 use Rattle.three.proofs.Loops.{Tried}
 use Rattle.beginners.specs.Rules.{well_fed}

@@ -1,5 +1,5 @@
 -- `beginner_board::literals_vary` meets its contract: each literal is tried in turn. Assumes nothing.
-use Prim.Native.Nat.{◌+◌, ◌-◌}
+use Prim.Native.Nat.{◌+◌}
 use lib.ListN.{get_or}
 use Rattle.three.proofs.Loops.{Tried}
 use Rattle.beginners.specs.Rules.{varies}

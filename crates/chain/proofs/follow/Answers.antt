@@ -1,5 +1,4 @@
 use mathlib.Core.Path.{refl, sym}
-use Prim.Native.Nat.{◌-◌}
 use Rattle.chain.proofs.Following.{turn_first, cubes_fit, kept_length, state_record, held_room, few_bytes, reached, reached_long, reached_record, count_within, stopped_now, full_now, count_small, next_fits_now, turn_next}
 use native.Mathlib.Omega.{arith}
 use Rattle.chain.proofs.follow.Goals as goal

@@ -1,4 +1,3 @@
-use Prim.Native.Nat.{◌-◌}
 use Rattle.three.proofs.Loops.{stored_first, stored_last}
 use Rattle.chain.proofs.Keeping.{widen_next}
 use native.Mathlib.Omega.{arith}

@@ -1,5 +1,4 @@
 -- `chain::widen` meets its contract: the bytes are widened in turn. Assumes nothing.
-use Prim.Native.Nat.{◌-◌}
 use Rattle.three.proofs.Loops.{Stored}
 use Rattle.chain.specs.ChainInCode.{widened_bytes}
 use Rattle.chain.proofs.widen.Given as goal

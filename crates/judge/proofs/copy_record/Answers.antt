@@ -1,4 +1,3 @@
-use Prim.Native.Nat.{◌-◌}
 use Rattle.three.proofs.Loops.{stored_first, stored_last}
 use Rattle.judge.proofs.Latches.{copy_next}
 use Rattle.judge.proofs.copy_record.Goals as goal

@@ -1,5 +1,4 @@
 -- `judge::copy_record` meets its contract: the bytes are copied in turn. Assumes nothing.
-use Prim.Native.Nat.{◌-◌}
 use lib.ListN.{drop}
 use Rattle.three.proofs.Loops.{Stored}
 use Rattle.judge.proofs.copy_record.Given as goal

@@ -1,5 +1,4 @@
 -- `judge::fill_record` meets its contract: its bytes are stored in turn. Assumes nothing.
-use Prim.Native.Nat.{◌-◌}
 use lib.ListN.{replicate}
 use Rattle.three.specs.Value.{decode}
 use Rattle.three.specs.Record.{bytes_for, pack}

@@ -1,4 +1,3 @@
-use Prim.Native.Nat.{◌-◌}
 use Rattle.cubes.proofs.Merging.{merged_record, merged_length}
 use Rattle.judge.proofs.Latches.{latch_place, cube_record, settled_first, settled_next, settled_last}
 use native.Mathlib.Numerals.{add-one}

@@ -1,5 +1,5 @@
 -- `judge::merge_cubes` meets its contract: the cubes from j on are merged one after the other. Assumes nothing.
-use Prim.Native.Nat.{◌-◌, ◌≤◌}
+use Prim.Native.Nat.{◌≤◌}
 use Rattle.judge.proofs.Latches.{Settled}
 use Rattle.judge.proofs.merge_cubes.Given as goal
 

@@ -1,5 +1,4 @@
 use mathlib.Core.Path.{refl, sym}
-use Prim.Native.Nat.{◌-◌}
 use native.Mathlib.Nat.{zero-mul}
 use Rattle.pass.proofs.Values.{fresh_begins}
 use Rattle.cubes.proofs.Storing.{cube_place}

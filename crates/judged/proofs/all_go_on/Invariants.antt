@@ -1,5 +1,4 @@
 -- `judged::all_go_on` meets its contract: each cube's next state is compared, and what gets a verdict in it is merged into that before it. Assumes nothing.
-use Prim.Native.Nat.{◌-◌}
 use Rattle.judge.proofs.Passing.{Passing}
 use Rattle.judged.proofs.Walking.{follows}
 use Rattle.judged.proofs.all_go_on.Given as goal

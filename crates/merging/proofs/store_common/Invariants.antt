@@ -1,5 +1,4 @@
 -- `merging::store_common` meets its contract: AND of two bytes is the byte of the merged record, stored in turn. Assumes nothing.
-use Prim.Native.Nat.{◌-◌}
 use Rattle.three.specs.Cube.{merged}
 use Rattle.three.specs.Record.{bytes_for, pack, unpack}
 use Rattle.three.proofs.Loops.{Stored}

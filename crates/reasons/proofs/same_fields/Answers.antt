@@ -1,4 +1,3 @@
-use Prim.Native.Nat.{◌-◌}
 use Rattle.three.proofs.Loops.{tried_first, tried_next, tried_fails, tried_all}
 use Rattle.reasons.proofs.same_fields.Goals as goal
 

@@ -1,5 +1,4 @@
 -- `reasons::same_fields` meets its contract: field after field is tried. Assumes nothing.
-use Prim.Native.Nat.{◌-◌}
 use lib.Dec.{eqb}
 use Rattle.three.specs.Record.{pair_at}
 use Rattle.three.proofs.Loops.{Tried}

@@ -1,5 +1,4 @@
 -- `rows::put_bytes` meets its contract: the bytes are copied in turn. Assumes nothing.
-use Prim.Native.Nat.{◌-◌}
 use lib.ListN.{length}
 use Rattle.three.proofs.Loops.{Stored}
 use Rattle.rows.proofs.put_bytes.Given as goal

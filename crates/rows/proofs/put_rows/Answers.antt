@@ -1,4 +1,3 @@
-use Prim.Native.Nat.{◌-◌}
 use Rattle.rows.proofs.Rows.{rows_first, rows_next, rows_last}
 use Rattle.rows.proofs.put_rows.Goals as goal
 

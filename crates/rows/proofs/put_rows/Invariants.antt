@@ -1,5 +1,4 @@
 -- `rows::put_rows` meets its contract: row by row, what is left makes it the whole. Assumes nothing.
-use Prim.Native.Nat.{◌-◌}
 use Rattle.rows.proofs.Rows.{RowsLeft}
 use Rattle.rows.proofs.put_rows.Given as goal
 

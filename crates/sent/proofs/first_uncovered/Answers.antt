@@ -1,4 +1,3 @@
-use Prim.Native.Nat.{◌-◌}
 use mathlib.Core.Path.{refl, sym}
 use native.Mathlib.Nat.{zero-mul}
 use Rattle.pass.proofs.Values.{fresh_begins}

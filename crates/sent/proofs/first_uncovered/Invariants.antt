@@ -1,6 +1,5 @@
 -- `sent::first_uncovered` meets its contract: cube after cube is passed, or found uncovered, and its lamps and bad states are merged into those before;
 -- where there is no cube each verdict is never. Assumes nothing.
-use Prim.Native.Nat.{◌-◌}
 use Rattle.judge.proofs.Passing.{Passing}
 use Rattle.sent.proofs.Passing.{covered_at}
 use Rattle.sent.proofs.first_uncovered.Given as goal

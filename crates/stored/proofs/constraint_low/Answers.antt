@@ -1,5 +1,4 @@
 use mathlib.Core.Path.{refl}
-use Prim.Native.Nat.{◌-◌}
 use Rattle.three.proofs.Loops.{tried_first}
 use Rattle.stored.proofs.Constraining.{constraint_word, low_found, low_next, low_missing}
 use native.Mathlib.Omega.{arith}

@@ -1,5 +1,4 @@
 -- `stored::constraint_low` meets its contract: each constraint's literal is read in turn. Assumes nothing.
-use Prim.Native.Nat.{◌-◌}
 use Rattle.three.proofs.Loops.{Tried}
 use Rattle.pass.specs.ValuesInCode.{values_of}
 use Rattle.stored.proofs.Constraining.{not_low}

@@ -1,5 +1,4 @@
 use mathlib.Core.Path.{refl}
-use Prim.Native.Nat.{◌-◌}
 use borrow.Author.Tests.{eq-eqb, ne_eqb}
 use Rattle.three.proofs.Loops.{tried_first, tried_next, tried_fails, tried_all}
 use Rattle.stored.specs.CubesInCode.{covers_from}

@@ -1,5 +1,4 @@
 -- `stored::covers` meets its contract: each byte is tried in turn. Assumes nothing.
-use Prim.Native.Nat.{◌-◌}
 use Rattle.three.proofs.Loops.{Tried}
 use Rattle.stored.proofs.Searching.{inside}
 use Rattle.stored.proofs.covers.Given as goal

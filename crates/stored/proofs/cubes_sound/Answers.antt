@@ -1,4 +1,3 @@
-use Prim.Native.Nat.{◌-◌}
 use Rattle.three.proofs.Loops.{tried_first, tried_next, tried_fails, tried_all}
 use Rattle.stored.proofs.Judged.{judged_place, judged_cube}
 use native.Mathlib.Omega.{arith}

@@ -1,5 +1,4 @@
 -- `stored::cubes_sound` meets its contract: each cube is tried in turn. Assumes nothing.
-use Prim.Native.Nat.{◌-◌}
 use Rattle.three.proofs.Loops.{Tried}
 use Rattle.cubes.specs.Buffer.{sound_in}
 use Rattle.stored.proofs.cubes_sound.Given as goal

@@ -1,5 +1,4 @@
 use mathlib.Core.Path.{refl}
-use Prim.Native.Nat.{◌-◌}
 use Rattle.stored.proofs.Searching.{outer_first, inner_first, inner_next, clash, found, missing}
 use Rattle.stored.proofs.search.Goals as goal
 

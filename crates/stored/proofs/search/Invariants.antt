@@ -12,3 +12,6 @@ invariant-stored l = Outer l.cubes l.b l.len l.n l.k l.at
 
 abbrev pub decreases-stored : goal.decreases-stored
 decreases-stored l = l.n - l.k
+
+abbrev pub decreases-loop-i : goal.decreases-loop-i
+decreases-loop-i l = l.len - l.i

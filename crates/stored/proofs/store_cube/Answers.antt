@@ -1,5 +1,4 @@
 use mathlib.Core.Path.{refl}
-use Prim.Native.Nat.{◌-◌}
 use Rattle.three.proofs.Loops.{stored_last}
 use Rattle.stored.proofs.Raising.{raised_first, raised_next}
 use native.Mathlib.Omega.{arith}

@@ -1,5 +1,4 @@
 -- `stored::store_cube` meets its contract: the bytes are stored in turn, each moved up behind the one above it. Assumes nothing.
-use Prim.Native.Nat.{◌-◌}
 use Rattle.stored.proofs.Raising.{Raised}
 use Rattle.stored.proofs.store_cube.Given as goal
 

@@ -1,4 +1,3 @@
-use Prim.Native.Nat.{◌-◌}
 use Rattle.three.proofs.Loops.{stored_first, stored_last}
 use Rattle.stored.proofs.Keeping.{kept_next}
 use Rattle.stored.proofs.store_kept.Goals as goal

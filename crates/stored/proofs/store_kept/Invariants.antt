@@ -1,5 +1,4 @@
 -- `stored::store_kept` meets its contract: the bytes are stored in turn. Assumes nothing.
-use Prim.Native.Nat.{◌-◌}
 use Rattle.three.proofs.Loops.{Stored}
 use Rattle.stored.specs.CubesInCode.{kept_bytes}
 use Rattle.stored.proofs.store_kept.Given as goal

@@ -1,4 +1,3 @@
-use Prim.Native.Nat.{◌-◌}
 use lib.ListN.{length-drop}
 use Rattle.three.proofs.Loops.{stored_first}
 use Rattle.three.proofs.Filling.{fill_next, fill_last}

@@ -1,5 +1,4 @@
 -- `stored::store_latches` meets its contract: its bytes are stored in turn. Assumes nothing.
-use Prim.Native.Nat.{◌-◌}
 use lib.ListN.{drop}
 use Rattle.three.specs.Record.{bytes_for, pack}
 use Rattle.three.proofs.Loops.{Stored}

@@ -1,4 +1,3 @@
-use Prim.Native.Nat.{◌-◌}
 use Rattle.three.proofs.Loops.{stored_first}
 use Rattle.three.proofs.Filling.{fill_next, fill_last}
 use Rattle.stored.proofs.Starting.{start_sized}

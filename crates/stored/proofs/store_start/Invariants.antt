@@ -1,5 +1,4 @@
 -- `stored::store_start` meets its contract: its bytes are stored in turn. Assumes nothing.
-use Prim.Native.Nat.{◌-◌}
 use Rattle.three.specs.Record.{bytes_for, pack}
 use Rattle.three.proofs.Loops.{Stored}
 use Rattle.stored.specs.CubesInCode.{start_fields}

@@ -1,5 +1,4 @@
 -- `why::store_marked` meets its contract: its bytes are stored in turn. Assumes nothing.
-use Prim.Native.Nat.{◌-◌}
 use Rattle.three.specs.Record.{bytes_for, pack}
 use Rattle.three.proofs.Loops.{Stored}
 use Rattle.why.specs.MarksInCode.{marked_fields}
