@@ -1,15 +1,15 @@
 -- Consecutive cubes with the same explanation: when two are the same, and the group that a loop is in. Assumes nothing.
 use mathlib.Core.Path.{◌≡◌, refl, sym, ap, ◌∙◌}
-use mathlib.Core.Bool.{Bool, true, false}
+use mathlib.Core.Bool.{true, false}
 use mathlib.Core.List.{List, [], ◌++◌, append-nil}
-use Prim.Native.Nat.{ℕ, zero, suc, ◌+◌, ◌*◌, ◌-◌, ◌≤◌, ◌<◌}
+use Prim.Native.Nat.{ℕ, zero, suc, ◌+◌, ◌-◌, ◌≤◌, ◌<◌}
 use native.Mathlib.Omega.{arith}
 use native.Mathlib.Numerals.{add-one}
 use borrow.Author.Tests.{eqb-true, eq-eqb}
 use lib.Dec.{eqb}
-use lib.ListN.{length, get_or, take}
+use lib.ListN.{length, get_or}
 use Rattle.three.specs.Lists.{every, over}
-use Rattle.three.specs.Value.{Three, unknown, code}
+use Rattle.three.specs.Value.{unknown, code}
 use Rattle.three.specs.Cube.{Cube, alike, subsumes}
 use Rattle.three.specs.Record.{bytes_for, pack, pair_at}
 use Rattle.three.proofs.Lists.{iff, and_parts, every_at, every_all, tabulate_ext, tabulate_get_or}

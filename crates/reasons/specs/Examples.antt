@@ -1,5 +1,5 @@
 -- Lines that the specification (6) shows, computed. Assumes nothing.
-use Rattle.std.specs.Prelude.{◌≡◌, refl, List, [], ◌∷◌, ℕ, get_or}
+use Rattle.std.specs.Prelude.{◌≡◌, refl, [], ◌∷◌, ℕ, get_or}
 use Rattle.three.specs.Value.{unknown, low, high, code}
 use Rattle.three.specs.Cube.{Cube, alike, allows, subsumes}
 use Rattle.text.specs.Decimal.{decimal, digits}

@@ -7,4 +7,11 @@ loop-i-init c = latches_first _ _ _ _
 
 pub loop-i-preserved : goal.loop-i-preserved
 loop-i-preserved c =
-    latches_next _ _ _ _ c.loop-i.invariant c.loop-i-test.true c.field.ensures c.put_forced-end.ensures c.has_begun-begun.ensures
+    latches_next _ _ _ _ c.loop-i.invariant c.loop-i-test.true c.field-field.ensures c.put_forced-end.ensures c.has_begun-begun.ensures
+
+pub returns-then-begun : goal.returns-then-begun
+returns-then-begun c = latches_last _ _ _ _ c.loop-i.invariant c.loop-i-test.false c.if-begun.true
+
+pub returns : goal.returns
+unfolding bytes
+returns c = latches_none _ _ _ _ c.loop-i.invariant c.loop-i-test.false c.if-begun.false c.put_bytes.ensures
