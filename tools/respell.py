@@ -18,7 +18,7 @@ TOKEN = re.compile(r"--[^\n]*|//[^\n]*|b?\"(?:[^\"\\]|\\.)*\"|«[^»]*»|" + WOR
 NAME = re.compile(r"[a-zα-ω+][A-Za-z0-9_'₀₁₂₃α-ω-]*$")
 DECLARED = re.compile(r"^ *(?:(?:abbrev|unfoldable|pub|let) )*([^\s(){}:;,=|λ]+(?: [^\s(){}:;,=|λ]+)*?)(?: \{[^}\n]*\}| \([^)\n]*\))* : ", re.M)
 USE = re.compile(r"^\s*(?:ghost |pub )*use ([^\s{;]+?)(?:\.\{([^}]*)\}| as (\S+))?;?$", re.M)
-MADE = re.compile(r"\.(?:Goals|Given|Tie|Lts[^.]*|Code|Met|Reads|Statement|Kinds)$|\.\+[^.]*$|\.specs\.(?:contracts|declared)\b")
+MADE = re.compile(r"\.proofs\.[^.]+\.(?:\S+\.)?(?:Goals|Given|Tie|Lts[^.]*|Code|Met|Reads|Statement|Kinds)$|\.\+[^.]*$|\.specs\.(?:contracts|declared)\b")
 KEPT = set("let in as where module unfolding elim record open use pub abbrev unfoldable data infix infixl infixr".split())
 
 
@@ -37,6 +37,7 @@ def read(path):
 
 
 def snake(name):
+    name = re.sub(r"(?<![A-Za-z])getD(?![A-Za-z])", "get_or", name)
     name = re.sub(r"(?<=[a-z0-9₀₁₂])([A-Z])", lambda m: "_" + m.group(1).lower(), name)
     return re.sub(r"(?<=[^-])-(?=[^-])", "_", name)
 

@@ -1,5 +1,5 @@
 -- What each test decides, in the order of the refusals, and what an outcome leaves. Assumes nothing.
-use mathlib.Core.Path.{◌≡◌, refl, sym, ap, ◌∙◌}
+use mathlib.Core.Path.{◌≡◌, refl, sym, ◌∙◌}
 use mathlib.Core.Bool.{Bool, true, false}
 use mathlib.Core.List.{List, [], ◌∷◌, ◌++◌}
 use Prim.Native.Nat.{ℕ, zero, suc, ◌+◌, ◌≤◌, ◌<◌}
@@ -12,17 +12,15 @@ use Rattle.circuit.specs.declared.Counts.{Counts}
 use Rattle.circuit.specs.Refusal.{Test, ◌or◌, refusal}
 use Rattle.circuit.specs.Table.{variables, table_length}
 use Rattle.circuit.proofs.Refusals.{Numbered, stops, past, none, refuses_whole, none_past}
-use Rattle.text.specs.Part.{ill}
 use Rattle.text.specs.Outcome.{Outcome, accepted, refused, number_of, tested, leaves}
-use Rattle.text.specs.OutcomeInCode.{after}
-use Rattle.text.specs.Text.{ends, header, counts_of, count_tests}
+use Rattle.text.specs.Text.{ends, counts_of, count_tests}
 use Rattle.text.specs.Calls.{zeros}
 use Rattle.text.proofs.Outcomes.{tested_stops, tested_past}
 use Rattle.lines.specs.declared.ReadLine.{ReadLine}
 use Rattle.lines.specs.LinesInCode.{Shape, numbers_of}
 use Rattle.reader.proofs.Opening.{counts_numbered, count_few}
 use Rattle.drawn.specs.Drawing.{Drawing, drawing_tests, table, renumbered}
-use Rattle.drawn.specs.Lines.{any_header_tests, drawing, after_tests, room_tests, LeftBy}
+use Rattle.drawn.specs.Lines.{any_header_tests, after_tests, room_tests, LeftBy}
 
 -- ---- what an outcome leaves
 

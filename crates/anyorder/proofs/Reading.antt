@@ -1,20 +1,19 @@
 -- From the lines and the first line to the contract of the reader for any order. Assumes nothing.
 use mathlib.Core.Path.{◌≡◌, refl, sym, ap, ◌∙◌}
-use mathlib.Core.Bool.{true, false}
 use mathlib.Core.List.{List, [], ◌++◌}
-use Prim.Native.Nat.{ℕ, zero, suc, ◌+◌, ◌≤◌, ◌<◌}
+use Prim.Native.Nat.{ℕ, zero, suc, ◌≤◌, ◌<◌}
 use native.Mathlib.Omega.{arith}
 use borrow.Author.Tests.{le-leb, lt-leb, ltb-true, ltb-false}
-use lib.Dec.{leb, ltb}
+use lib.Dec.{ltb}
 use lib.ListN.{length, get_or, take}
 use lib.Seq.{length-take-le}
 use Rattle.three.proofs.Lists.{by_test}
 use Rattle.circuit.specs.declared.Counts.{Counts}
-use Rattle.circuit.specs.Refusal.{Test, ◌or◌, refusal}
+use Rattle.circuit.specs.Refusal.{Test, refusal}
 use Rattle.circuit.specs.RulesInCode.{Passed, Bounded}
 use Rattle.circuit.specs.Table.{variables, ceiling_tests, kinds}
 use Rattle.circuit.proofs.Refusals.{Numbered, stops, past, none, passes, none_past, refusal_append}
-use Rattle.text.specs.Part.{got, ill}
+use Rattle.text.specs.Part.{got}
 use Rattle.text.specs.Outcome.{Outcome, accepted, refused, tested, further, onward}
 use Rattle.text.specs.OutcomeInCode.{after}
 use Rattle.text.specs.Text.{Lines, header, counts_of, count_tests, ending_of}

@@ -6,7 +6,7 @@ use native.Mathlib.Omega.{arith}
 use lib.ListN.{length, get_or, get_or-map}
 use Rattle.three.specs.Value.{Three, unknown, ternary}
 use Rattle.three.specs.Cube.{Cube}
-use Rattle.three.proofs.Lists.{length_tabulate, get_d_tabulate, get_d_any}
+use Rattle.three.proofs.Lists.{length_tabulate, get_or_tabulate, get_or_any}
 use Rattle.circuit.specs.declared.Counts.{Counts}
 use Rattle.circuit.specs.Circuit.{value, settle, readings}
 use Rattle.circuit.specs.Table.{top, literals_at, gates_at, circuit_of}
@@ -33,7 +33,7 @@ module _ (c : Counts) (words : List ℕ) where
 
   pub gate_words_lem : (i : ℕ) → i < c.gates → gate_at (circuit_of c words) i ≡ gate_in words (gates_at c) i
   unfolding gate_at circuit_of
-  gate_words_lem i h = get_d_tabulate c.gates _ i _ h
+  gate_words_lem i h = get_or_tabulate c.gates _ i _ h
 
   module _ (legal : Legal c words) where
     pub legal_falls : (i : ℕ) → i < c.gates → ((gate_at (circuit_of c words) i).left < 2 * (1 + c.inputs + c.latches + i)) × ((gate_at (circuit_of c words) i).right < 2 * (1 + c.inputs + c.latches + i))
@@ -52,7 +52,7 @@ module _ (c : Counts) (words : List ℕ) where
 
     pub literal_word : lamp_literal (circuit_of c words) lamp ≡ get_or words (literals_at c + lamp) 0
     unfolding lamp_literal circuit_of
-    literal_word = get_d_tabulate c.lamps _ lamp 0 h
+    literal_word = get_or_tabulate c.lamps _ lamp 0 h
 
     pub literal_within : Legal c words → lamp_literal (circuit_of c words) lamp ≤ top c
     literal_within legal = rw literal_word (legal.literal lamp (omega arith))
@@ -62,4 +62,4 @@ module _ (c : Counts) (words : List ℕ) where
     unfolding lamp_in lamp_literal values_in lamps_in readings
     lamp_read state =
         let read : ℕ → Three = value ternary (settle ternary (circuit_of c words) (switches_unknown (circuit_of c words)) state) in
-        get_d_any (lamps_in (circuit_of c words) state) lamp unknown (read 0) (omega (arith, lamps_sized (circuit_of c words) state, lamp_count)) ∙ get_or-map read (circuit_of c words).lamps lamp 0
+        get_or_any (lamps_in (circuit_of c words) state) lamp unknown (read 0) (omega (arith, lamps_sized (circuit_of c words) state, lamp_count)) ∙ get_or-map read (circuit_of c words).lamps lamp 0

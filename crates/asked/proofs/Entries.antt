@@ -7,7 +7,7 @@ use lib.ListN.{length, get_or, replicate, length-append, length-replicate, get_o
 use lib.Seq.{get_or-append-add}
 use Rattle.three.specs.Value.{Three, unknown, low, both, ternary}
 use Rattle.three.specs.Cube.{Cube}
-use Rattle.three.proofs.Lists.{get_d_any}
+use Rattle.three.proofs.Lists.{get_or_any}
 use Rattle.circuit.specs.Circuit.{Circuit, value, settle}
 use Rattle.circuit.proofs.Fixed.{Falling, entry_front, pass_at}
 use Rattle.cubes.specs.Run.{switches_unknown}
@@ -40,7 +40,7 @@ module _ (c : Circuit) (state : Cube) (sized : length state ≡ length c.latches
       front_entry (latch_variable c i) (omega arith)
       ∙ ap (λ (v : ℕ). get_or front v low) place
       ∙ get_or-append-add (replicate c.inputs unknown) state i low
-      ∙ get_d_any state i low unknown (omega arith)
+      ∙ get_or_any state i low unknown (omega arith)
 
   pub gate_entry : Falling (first_gate c) c.gates → (i : ℕ) → i < length c.gates
       → get_or (values_in c state) (first_gate c + i) low ≡ both (value ternary (values_in c state) (gate_at c i).left) (value ternary (values_in c state) (gate_at c i).right)

@@ -6,7 +6,7 @@ use native.Mathlib.Omega.{arith}
 use lib.ListN.{length, get_or}
 use Rattle.three.specs.Value.{Three, unknown, code, ternary}
 use Rattle.three.specs.Cube.{Cube, alike, allows, subsumes, blank}
-use Rattle.three.proofs.Lists.{length_tabulate, get_d_tabulate, every_all}
+use Rattle.three.proofs.Lists.{length_tabulate, get_or_tabulate, every_all}
 use Rattle.three.proofs.Fields.{allows_self}
 use Rattle.three.proofs.Merge.{subsumes_every}
 use Rattle.circuit.specs.Circuit.{Circuit, value}
@@ -41,7 +41,7 @@ module _ (c : Circuit) (falling : Falling (first_gate c) c.gates) (state : Cube)
 
   forcing_at : (i : ℕ) → i < length state → get_or (forcing c state x) i unknown ≡ blank (get_or state i unknown) (not (forces c state x i))
   unfolding forcing
-  forcing_at i h = get_d_tabulate (length state) _ i unknown h
+  forcing_at i h = get_or_tabulate (length state) _ i unknown h
 
   -- from the answer alone a literal whose value is known has the same value
   pub same_value : x / 2 < first_gate c + length c.gates → (value ternary (values_in c state) x ≡ unknown → ⊥) → value ternary (values_in c (forcing c state x)) x ≡ value ternary (values_in c state) x

@@ -1,4 +1,6 @@
 // The calls for beginners' boards (request 12): their reader, and their run (specification, 4.19 and 5.15).
+#![tactic(auto)]
+
 ghost use Rattle.std.specs.Prelude.{◌≡◌, ◌+◌, ◌*◌, ◌<◌, ◌≤◌, length, get_or};
 ghost use Rattle.three.specs.Lists.{every};
 ghost use Rattle.circuit.specs.Refusal.{refusal};

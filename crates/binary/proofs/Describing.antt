@@ -2,7 +2,7 @@
 use mathlib.Core.Path.{◌≡◌, refl, ◌∙◌, ap, ap₂}
 use mathlib.Core.Bool.{true}
 use mathlib.Core.List.{List, [], ◌∷◌, ◌++◌, append_assoc}
-use Prim.Native.Nat.{ℕ, suc, ◌-◌, ◌≤◌, ◌<◌, max, min}
+use Prim.Native.Nat.{ℕ, suc, ◌≤◌, ◌<◌, max, min}
 use native.Mathlib.Omega.{arith}
 use borrow.Author.Tests.{leb-true, ltb-true, eqb-true}
 use lib.Dec.{leb}
@@ -76,7 +76,7 @@ gate_says most own left right t m p q =
     let f : min left right ≡ right = omega arith in
     gate_back own left right t m p (omega arith) ∙ rw (e, f)
 
-says_read : (most : ℕ) {ks : List Kind} {r ws t : List ℕ} → most < 16384 → Owned most ks → RowsSay r ks ws t → Passed (table_tests most ks ws)
+says_read : (most : ℕ) {r : List ℕ} {ks : List Kind} {ws t : List ℕ} → most < 16384 → Owned most ks → RowsSay r ks ws t → Passed (table_tests most ks ws)
     → read_rows most ks t ≡ accepted (record { owns = []; words = ws; rest = r })
 unfolding read_rows read_row table_tests row_tests literal_tests operand_tests width
 says_read most m o stop p = refl

@@ -1,7 +1,7 @@
 -- The words of rows with the larger operand first: they are the table's ordered words, and keep the rules. Assumes nothing.
 use mathlib.Core.Path.{◌≡◌, refl, ◌∙◌, ap}
 use mathlib.Core.List.{List, [], ◌∷◌, ◌++◌, append_assoc}
-use Prim.Native.Nat.{ℕ, zero, suc, ◌+◌, ◌*◌, ◌-◌, ◌≤◌, max, min}
+use Prim.Native.Nat.{ℕ, zero, suc, ◌+◌, ◌*◌, ◌≤◌, max, min}
 use native.Mathlib.Nat.{zero-mul, suc-mul}
 use native.Mathlib.Omega.{arith}
 use borrow.Author.Tests.{leb-true, ltb-true, le-leb, lt-ltb}
@@ -81,7 +81,10 @@ row_rules most (gate own) ws us p =
 
 drop_row : (k : Kind) (ws us : List ℕ) → drop (width k) (ordered_row k ws ++ us) ≡ us
 unfolding ordered_row width
-drop_row k ws us = elim k [ input own ↦ refl | latch own ↦ refl | literal ↦ refl | gate own ↦ refl ]
+drop_row (input own) ws us = refl
+drop_row (latch own) ws us = refl
+drop_row literal ws us = refl
+drop_row (gate own) ws us = refl
 
 rows_rules : (most : ℕ) (ks : List Kind) (ws : List ℕ) → Passed (table_tests most ks ws) → Passed (table_tests most ks (ordered_rows ks ws))
 unfolding table_tests ordered_rows

@@ -17,7 +17,7 @@ use Rattle.lines.specs.declared.ReadLine.{ReadLine}
 use Rattle.lines.specs.LinesInCode.{from, numbers_of}
 use Rattle.lines.proofs.Finding.{line_read}
 use Rattle.reader.specs.declared.Place.{Place}
-use Rattle.reader.specs.ReaderInCode.{lines_of, body_words, stand, KindFilled}
+use Rattle.reader.specs.ReaderInCode.{lines_of, body_words, KindFilled}
 use Rattle.reader.proofs.Filling.{words_small, Turn}
 use Rattle.circuit.specs.Table.{table_length}
 use Rattle.binary.specs.Binary.{Row, owned, read_gate_row, read_row, read_rows, circuit_rows, read_binary}

@@ -8,7 +8,7 @@ use lib.ListN.{length, drop}
 use Rattle.circuit.specs.declared.Counts.{Counts}
 use Rattle.circuit.specs.Refusal.{refusal}
 use Rattle.circuit.specs.RulesInCode.{Legal}
-use Rattle.circuit.specs.Table.{several, circuit_tests, literals, gates_at, width}
+use Rattle.circuit.specs.Table.{several, circuit_tests, gates_at, width}
 use Rattle.text.specs.KindsInCode.{coded}
 use Rattle.text.specs.Line.{line_text}
 use Rattle.text.specs.Text.{head_numbers, write_rows}

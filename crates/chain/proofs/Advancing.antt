@@ -12,7 +12,7 @@ use lib.Seq.{paste, length-paste}
 use Rattle.three.specs.Lists.{over}
 use Rattle.three.specs.Value.{code, known}
 use Rattle.three.specs.Record.{byte_at}
-use Rattle.three.proofs.Lists.{length_tabulate, get_d_tabulate}
+use Rattle.three.proofs.Lists.{length_tabulate, get_or_tabulate}
 use Rattle.circuit.specs.declared.Counts.{Counts}
 use Rattle.circuit.specs.Circuit.{Circuit}
 use Rattle.circuit.specs.Table.{circuit_of}
@@ -62,7 +62,7 @@ module _ (c : Counts) (words : List ℕ) (w : ℕ) (buffer : List ℕ) {count : 
       go false = unfold held_after widened in g.holding i l
       go true = unfold held_after widened widened_bytes cube_at in
           front_byte held _ len i l (omega (arith, length_tabulate len (λ k. bit_or (get_or held k 0) (differing_byte (get_or state k 0) (get_or b k 0)))))
-          ∙ get_d_tabulate len _ i 0 l
+          ∙ get_or_tabulate len _ i 0 l
           ∙ bytes_widened held here.held g.holding _ _ here.cube (reached circuit here) (flags_sized c words w buffer g.last ∙ sym (cubes_sized c words w g.last)) same_size g.lasting reach i l
 
   stage_next : stage circuit w count ≡ store d here (reached circuit here)
@@ -75,7 +75,7 @@ module _ (c : Counts) (words : List ℕ) (w : ℕ) (buffer : List ℕ) {count : 
   last_next i h =
       ap (λ (l : List ℕ). get_or l i 0) advanced.keeps
       ∙ front_byte state _ len i h (omega (arith, length_kept len after.held b))
-      ∙ get_d_tabulate len _ i 0 h
+      ∙ get_or_tabulate len _ i 0 h
       ∙ bytes_kept after.held flags held_next _ (reached circuit here) reach i h
       ∙ ap (λ (s : Stage). byte_at s.cube i) (sym stage_next)
 

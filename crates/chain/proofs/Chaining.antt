@@ -12,7 +12,7 @@ use Rattle.three.specs.Value.{code, known}
 use Rattle.three.specs.Cube.{Cube}
 use Rattle.three.specs.Record.{bytes_for, byte_at, pack, unpack}
 use Rattle.three.specs.RecordInCode.{IsRecord}
-use Rattle.three.proofs.Lists.{get_d_tabulate}
+use Rattle.three.proofs.Lists.{get_or_tabulate}
 use Rattle.three.proofs.Pack.{length_pack}
 use Rattle.circuit.specs.declared.Counts.{Counts}
 use Rattle.circuit.specs.Circuit.{Circuit}
@@ -111,7 +111,7 @@ module _ (c : Counts) (words : List ℕ) (w : ℕ) (buffer : List ℕ) where
           let n : Cube = next_cube circuit here.cube in
           ap (λ (l : List ℕ). get_or l i 0) (e ∙ ap (λ (v : Cube). paste b 0 (kept_bytes len held (pack (next_cube circuit v))) len) last_cube)
           ∙ front_byte b _ len i h (omega (arith, length_kept len held (pack n)))
-          ∙ get_d_tabulate len _ i 0 h
+          ∙ get_or_tabulate len _ i 0 h
           ∙ bytes_kept held here.held g.holding _ n (λ k l. packed_byte n k) i h
 
     pub cube_bytes_lem : (k : ℕ) → k < count → Marked size (λ i. get_or cubes (k * len + i) 0) (code (known (marked w k))) (cube_at circuit w k)

@@ -10,8 +10,8 @@ use lib.Dec.{eqb}
 use lib.ListN.{length, get_or, set}
 use lib.Seq.{paste, length-paste}
 use Rattle.three.specs.Value.{code, known}
-use Rattle.three.proofs.Loops.{Stored, stored_next, get_d_paste}
-use Rattle.three.proofs.Lists.{length_tabulate, get_d_tabulate}
+use Rattle.three.proofs.Loops.{Stored, stored_next, get_or_paste}
+use Rattle.three.proofs.Lists.{length_tabulate, get_or_tabulate}
 use Rattle.stored.specs.CubesInCode.{raised_bytes}
 use Rattle.cubes.specs.HeldInCode.{differing_byte}
 use Rattle.cubes.specs.Run.{due}
@@ -60,8 +60,8 @@ module _ (len : ℕ) (held last b : List ℕ) where
       → d ≡ differing_byte (get_or last i 0) (get_or b i 0) → Stored held 0 wide len (set wider i (bit_or (get_or wider i 0) d)) (i + 1)
   unfolding widened_bytes
   widen_next room wider i d s h e =
-      let kept : get_or wider i 0 ≡ get_or held i 0 = ap (λ l. get_or l i 0) s.same ∙ get_d_paste held 0 wide i i 0 (omega arith) (omega (arith, length_wide)) (omega arith) in
-      let seen : bit_or (get_or wider i 0) d ≡ get_or wide i 0 = rw (kept, e) (sym (get_d_tabulate len _ i 0 h)) in
+      let kept : get_or wider i 0 ≡ get_or held i 0 = ap (λ l. get_or l i 0) s.same ∙ get_or_paste held 0 wide i i 0 (omega arith) (omega (arith, length_wide)) (omega arith) in
+      let seen : bit_or (get_or wider i 0) d ≡ get_or wide i 0 = rw (kept, e) (sym (get_or_tabulate len _ i 0 h)) in
       rw zero-add at (stored_next held 0 wide len (omega arith) (omega (arith, length_wide)) wider i (bit_or (get_or wider i 0) d) 0 s h seen)
 
 -- ---- more latches held, or the same

@@ -1,4 +1,6 @@
 // The cubes of a run, its n and its j: widening, closing, ending, room (specification, 5.2 to 5.5).
+#![tactic(auto)]
+
 ghost use Rattle.std.specs.Prelude.{◌≡◌, true, ◌+◌, ◌*◌, ◌-◌, ◌<◌, ◌≤◌, length};
 ghost use Rattle.std.proofs.Math.Seq.{paste};
 ghost use Rattle.three.specs.Lists.{first};

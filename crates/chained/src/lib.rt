@@ -1,4 +1,6 @@
 // The public chain: the cubes of a run, n and j (specification, 5.8).
+#![tactic(auto)]
+
 ghost use Rattle.std.specs.Prelude.{◌≡◌, ◌-◌, ◌<◌};
 ghost use Rattle.circuit.specs.Refusal.{refusal};
 ghost use Rattle.cubes.specs.Chain.{chain_tests, Chained};

@@ -1,4 +1,6 @@
 // The C interface (include/chudravik.h): each public call under its C name, with the same contract, and nothing else.
+#![tactic(auto)]
+
 ghost use Rattle.tick.specs.Tick.{Ticked};
 ghost use Rattle.text.specs.Calls.{Reading, Writing};
 ghost use Rattle.drawn.specs.Lines.{ReadingAny};

@@ -19,12 +19,12 @@ module _ {A : Type 0} (logic : Logic A) where
   pub length_pass : (vs : List A) (gs : List Gate) → length (pass logic vs gs) ≡ length vs + length gs
   unfolding pass
   length_pass vs [] = sym (add-zero (length vs))
-  length_pass vs (g ∷ gs) = length_pass _ gs ∙ rw length-append (omega arith)
+  length_pass vs (g ∷ gs) = length_pass (vs ++ logic.and (value logic vs g.left) (value logic vs g.right) ∷ []) gs ∙ rw length-append (omega arith)
 
   pub pass_front : (vs ws : List A) (gs : List Gate) → take (length vs) (pass logic (vs ++ ws) gs) ≡ vs
   unfolding pass
   pass_front vs ws [] = take-append_seam vs ws
-  pass_front vs ws (g ∷ gs) = rw append_assoc (pass_front vs _ gs)
+  pass_front vs ws (g ∷ gs) = rw append_assoc (pass_front vs (ws ++ logic.and (value logic (vs ++ ws) g.left) (value logic (vs ++ ws) g.right) ∷ []) gs)
 
   -- what is read from it has a value for each literal
   module _ (c : Circuit) (switches state : List A) where

@@ -7,7 +7,7 @@ use Prim.Native.Nat.{ℕ, zero, suc, ◌/◌, ◌%◌}
 use Rattle.three.specs.Lists.{Each, empty, also}
 use Rattle.three.specs.Value.{Three, Logic, known, both, inverse, boolean, ternary}
 use Rattle.three.specs.Cube.{Cube, Holds, any, off, on, ◌∋◌}
-use Rattle.three.proofs.Lists.{each_get_d, each_append, each_map}
+use Rattle.three.proofs.Lists.{each_get_or, each_append, each_map}
 use Rattle.circuit.specs.Circuit.{Circuit, Gate, signed, value, pass, settle, readings}
 
 -- ---- a relation that the operations of two logics keep is kept by a circuit
@@ -25,7 +25,7 @@ module _ {A B : Type 0} {R : A → B → Type 0} {l : Logic A} {m : Logic B} (ke
 
   value_keeps : {xs : List A} {ys : List B} → Each R xs ys → (literal : ℕ) → R (value l xs literal) (value m ys literal)
   unfolding value
-  value_keeps rs literal = signed_keeps (literal % 2) (each_get_d rs keeps.false (literal / 2))
+  value_keeps rs literal = signed_keeps (literal % 2) (each_get_or rs keeps.false (literal / 2))
 
   pass_keeps : (gates : List Gate) {xs : List A} {ys : List B} → Each R xs ys → Each R (pass l xs gates) (pass m ys gates)
   unfolding pass

@@ -1,6 +1,8 @@
 // The counts of a circuit and their ceilings; specs and proofs: the circuit, its table of words, and their laws (specification, 3).
+#![tactic(auto)]
+
 ghost use Rattle.std.specs.Prelude.{◌≡◌};
-ghost use Rattle.circuit.specs.Table.{literals as literal_lines, literals_at, gates_at, verdicts as verdictCount, constraints_at};
+ghost use Rattle.circuit.specs.Table.{literals as literal_lines, literals_at, gates_at, verdicts as verdict_count, constraints_at};
 ghost use Rattle.circuit.specs.RulesInCode.{Bounded};
 
 // I, L, O, A, B and C.
@@ -31,7 +33,7 @@ pub const MOST_CONSTRAINTS: usize = 64;
 // How many verdicts a run gives: one for each lamp, then one for each bad state.
 pub fn verdicts(counts: Counts) -> usize
     requires { Bounded counts }
-    ensures { result ≡ verdictCount counts }
+    ensures { result ≡ verdict_count counts }
 {
     counts.lamps + counts.bads
 }

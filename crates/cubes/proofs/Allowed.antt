@@ -7,13 +7,13 @@ use native.Mathlib.Decide.{dec_lt}
 use native.Mathlib.Omega.{arith}
 use lib.ListN.{get_or}
 use Rattle.three.specs.Lists.{Each, empty, also, tabulate}
-use Rattle.three.specs.Cube.{Holds, off, on, ◌∋◌}
-use Rattle.three.proofs.Lists.{get_d_tabulate, get_d_beyond, map_tabulate, each_map}
+use Rattle.three.specs.Cube.{Holds, ◌∋◌}
+use Rattle.three.proofs.Lists.{get_or_tabulate, get_or_beyond, map_tabulate, each_map}
 use Rattle.circuit.specs.declared.Counts.{Counts}
 use Rattle.circuit.specs.Table.{circuit_of}
 use Rattle.circuit.specs.RulesInCode.{Legal}
 use Rattle.cubes.specs.Run.{start_field, resets}
-use Rattle.cubes.specs.Execution.{Allows, off, on, Execution}
+use Rattle.cubes.specs.Execution.{Allows, Execution}
 
 -- ---- one latch
 
@@ -74,8 +74,8 @@ module _ (c : Counts) (words : List ℕ) (legal : Legal c words) where
       reset k = get_or words (2 * k + 1) 0
 
       go : Dec (i < c.latches) → get_or (tabulate c.latches reset) i 0 ≤ 2
-      go (yes h) = rw (get_d_tabulate c.latches reset i 0 h) (legal.reset i h)
-      go (no h) = rw (get_d_beyond c.latches reset i 0 (omega arith)) (omega arith)
+      go (yes h) = rw (get_or_tabulate c.latches reset i 0 h) (legal.reset i h)
+      go (no h) = rw (get_or_beyond c.latches reset i 0 (omega arith)) (omega arith)
 
   -- the execution under these switches
   pub executes : (ℕ → ℕ → Bool) → Execution (circuit_of c words)

@@ -8,7 +8,7 @@ use lib.ListN.{length, length-append, length-replicate}
 use Rattle.three.specs.Lists.{over}
 use Rattle.three.specs.Cube.{Cube, merged}
 use Rattle.circuit.specs.declared.Counts.{Counts}
-use Rattle.circuit.specs.Circuit.{Circuit, lamps}
+use Rattle.circuit.specs.Circuit.{Circuit}
 use Rattle.circuit.specs.Table.{verdicts, circuit_of}
 use Rattle.cubes.specs.Run.{next_cube, lamps_in, watched, watched_in, cube_at, Ending, stops, full, run, merge, verdict, settled, merge_from}
 use Rattle.cubes.specs.Buffer.{cube_in, pack_cubes, marked}

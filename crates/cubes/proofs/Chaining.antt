@@ -16,7 +16,7 @@ use Rattle.cubes.specs.Chain.{room_in, stored_cubes, outcome_number, ChainGiven,
 use Rattle.cubes.specs.OutcomesInCode.{has_stopped}
 use Rattle.cubes.specs.Promise.{most_cubes, Closing}
 use Rattle.cubes.proofs.Storing.{records_sized, stored_sound}
-use Rattle.cubes.proofs.Given.{cubes-fit}
+use Rattle.cubes.proofs.Given.{cubes_fit}
 use Rattle.cubes.proofs.Merging.{length_over}
 use Rattle.cubes.proofs.Blocking.{none_counted}
 use Rattle.cubes.proofs.Closes.{run_closes, most_within}
@@ -79,7 +79,7 @@ module _ (g : ChainGiven) (r : ChainAnswer) (cubes : List ℕ) (chained : Chaine
     few = rw n_is (stopped_within (circuit_in g) g.w (room_in g.counts g.cubes) says.1)
 
     fit : r.cubes * cube_bytes g.counts.latches ≤ length g.cubes
-    fit = cubes-fit g.counts g.cubes r.cubes few
+    fit = cubes_fit g.counts g.cubes r.cubes few
 
     sized : (k : ℕ) → length (cube_at (circuit_in g) g.w k) ≡ g.counts.latches
     unfolding circuit_in

@@ -6,15 +6,14 @@ use mathlib.Core.List.{List, map}
 use Prim.Native.Nat.{ℕ, zero, suc, ◌<◌, ◌≤◌}
 use borrow.Author.Tests.{leb-true, le-leb, ltb-true, lt-ltb}
 use lib.Dec.{leb, ltb}
-use lib.ListN.{length, replicate}
+use lib.ListN.{length}
 use Rattle.three.specs.Lists.{every}
-use Rattle.three.specs.Value.{unknown, ternary}
 use Rattle.three.specs.Cube.{Cube, subsumes}
 use Rattle.three.proofs.Lists.{and_parts, every_at, every_all}
 use Rattle.three.proofs.Merge.{merged_order, subsumes_length, subsumes_self, subsumes_keeps}
-use Rattle.circuit.specs.Circuit.{Circuit, Latch, next, constraints, readings, settle}
+use Rattle.circuit.specs.Circuit.{Circuit, Latch, readings, settle}
 use Rattle.cubes.specs.Run.{hold, due, switches_unknown, next_cube, blocked, start_field, resets, start, Stage, reached, store, stage, cube_at, stops, run}
-use Rattle.cubes.specs.Given.{same, onward, goesTo, goesOn, startsChain, is_chain}
+use Rattle.cubes.specs.Given.{same, onward, goes_to, goes_on, starts_chain, is_chain}
 use Rattle.cubes.proofs.Blocking.{or_unless, or_either}
 use Rattle.cubes.proofs.Following.{Chain}
 use Rattle.cubes.proofs.Promise.{run_chain}
@@ -35,27 +34,27 @@ equal_same {a} {b} e = rw (← e, subsumes_self a) refl
 
 module _ (c : Circuit) (cubes : ℕ → Cube) (n j : ℕ) where
   -- its three parts
-  pub chain_parts : is_chain c cubes n j ≡ true → (j ≤ n) × (startsChain c cubes n ≡ true) × ((k : ℕ) → k < n → goesOn c cubes n j k ≡ true)
+  pub chain_parts : is_chain c cubes n j ≡ true → (j ≤ n) × (starts_chain c cubes n ≡ true) × ((k : ℕ) → k < n → goes_on c cubes n j k ≡ true)
   unfolding is_chain
   chain_parts e =
       let p = and_parts (leb j n) _ e in
-      let q = and_parts (startsChain c cubes n) _ p.1 in
-      (leb-true j n p.0, q.0, every_at n (goesOn c cubes n j) q.1)
+      let q = and_parts (starts_chain c cubes n) _ p.1 in
+      (leb-true j n p.0, q.0, every_at n (goes_on c cubes n j) q.1)
 
-  pub parts_chain : j ≤ n → startsChain c cubes n ≡ true → ((k : ℕ) → k < n → goesOn c cubes n j k ≡ true) → is_chain c cubes n j ≡ true
+  pub parts_chain : j ≤ n → starts_chain c cubes n ≡ true → ((k : ℕ) → k < n → goes_on c cubes n j k ≡ true) → is_chain c cubes n j ≡ true
   unfolding is_chain
-  parts_chain within starts follows = ap₂ ◌&&◌ (le-leb j n within) (ap₂ ◌&&◌ starts (every_all n (goesOn c cubes n j) follows))
+  parts_chain within starts follows = ap₂ ◌&&◌ (le-leb j n within) (ap₂ ◌&&◌ starts (every_all n (goes_on c cubes n j) follows))
 
   -- where no constraint is 0
-  starts_free : startsChain c cubes n ≡ true → blocked c (start c) ≡ false → (0 < n) × (cubes 0 ≡ start c)
-  unfolding startsChain
+  starts_free : starts_chain c cubes n ≡ true → blocked c (start c) ≡ false → (0 < n) × (cubes 0 ≡ start c)
+  unfolding starts_chain
   starts_free e free =
       let p = and_parts (ltb 0 n) _ (or_unless _ _ e free) in
       (ltb-true 0 n p.0, same_equal (cubes 0) (start c) p.1)
 
-  goes_free : (k : ℕ) → goesOn c cubes n j k ≡ true → blocked c (next_cube c (cubes k)) ≡ false
+  goes_free : (k : ℕ) → goes_on c cubes n j k ≡ true → blocked c (next_cube c (cubes k)) ≡ false
       → (onward n j k < n) × (subsumes (cubes (onward n j k)) (next_cube c (cubes k)) ≡ true)
-  unfolding goesOn goesTo
+  unfolding goes_on goes_to
   goes_free k e free =
       let p = and_parts (ltb (onward n j k) n) _ (or_unless _ _ e free) in
       (ltb-true (onward n j k) n p.0, p.1)
@@ -76,12 +75,12 @@ module _ (c : Circuit) (cubes : ℕ → Cube) (n j : ℕ) where
         };
       }
 
-  starts_pass : (blocked c (start c) ≡ false → (0 < n) × (cubes 0 ≡ start c)) → startsChain c cubes n ≡ true
-  unfolding startsChain
+  starts_pass : (blocked c (start c) ≡ false → (0 < n) × (cubes 0 ≡ start c)) → starts_chain c cubes n ≡ true
+  unfolding starts_chain
   starts_pass f = or_either _ _ (λ free. let there = f free in ap₂ ◌&&◌ (lt-ltb 0 n there.0) (equal_same there.1))
 
-  goes_pass : (k : ℕ) → (blocked c (next_cube c (cubes k)) ≡ false → (onward n j k < n) × (subsumes (cubes (onward n j k)) (next_cube c (cubes k)) ≡ true)) → goesOn c cubes n j k ≡ true
-  unfolding goesOn goesTo
+  goes_pass : (k : ℕ) → (blocked c (next_cube c (cubes k)) ≡ false → (onward n j k < n) × (subsumes (cubes (onward n j k)) (next_cube c (cubes k)) ≡ true)) → goes_on c cubes n j k ≡ true
+  unfolding goes_on goes_to
   goes_pass k f = or_either _ _ (λ free. let there = f free in ap₂ ◌&&◌ (lt-ltb (onward n j k) n there.0) there.1)
 
   pub chain_test : Chain c cubes n j → (blocked c (start c) ≡ false → cubes 0 ≡ start c) → is_chain c cubes n j ≡ true
@@ -136,7 +135,7 @@ module _ {c d : Circuit} (relit : Relit c d) where
   cube_relit w k = ap (λ (s : Stage). s.cube) (stage_relit w k)
 
   pub chain_relit : (f : ℕ → Cube) (n j : ℕ) → is_chain c f n j ≡ is_chain d f n j
-  unfolding is_chain startsChain goesOn goesTo
+  unfolding is_chain starts_chain goes_on goes_to
   chain_relit f n j i =
       leb j n && (((ltb 0 n && same (f 0) (start_relit i)) || blocked_relit (start_relit i) i)
       && every n (λ k. (ltb (onward n j k) n && subsumes (f (onward n j k)) (next_relit (f k) i)) || blocked_relit (next_relit (f k) i) i))

@@ -12,7 +12,7 @@ use Rattle.three.proofs.Lists.{by_test, every_at, every_all}
 use Rattle.circuit.specs.Circuit.{Circuit}
 use Rattle.circuit.specs.RulesInCode.{Passed}
 use Rattle.cubes.specs.Run.{next_cube, blocked, start, cube_at, Found, at, nowhere, search, stops, run}
-use Rattle.cubes.specs.Given.{covered, nextCovered, coverTests, firstUncovered}
+use Rattle.cubes.specs.Given.{covered, next_covered, cover_tests, first_uncovered}
 use Rattle.cubes.proofs.Steps.{Searched, searched, found, none_at_all}
 use Rattle.cubes.proofs.Cover.{Cover}
 use Rattle.cubes.proofs.Promise.{run_chain}
@@ -44,39 +44,39 @@ module _ (c : Circuit) (cubes : ℕ → Cube) (n : ℕ) where
       go (at j) s = refl
       go nowhere s = by_test (blocked c b) (λ e. e) (λ free. let there = over free in absurd (true≢false (sym there.2 ∙ none_at_all s there.0 there.1)))
 
-  pub test_cover : Passed (coverTests c cubes n) → Cover c cubes n (place_of (search cubes n (start c))) (λ k. place_of (search cubes n (next_cube c (cubes k))))
-  unfolding coverTests nextCovered
+  pub test_cover : Passed (cover_tests c cubes n) → Cover c cubes n (place_of (search cubes n (start c))) (λ k. place_of (search cubes n (next_cube c (cubes k))))
+  unfolding cover_tests next_covered
   test_cover p = record {
     starts = covered_found (start c) p.0;
-    follows = λ k h. covered_found (next_cube c (cubes k)) (every_at n (nextCovered c cubes n) p.1.0 k h);
+    follows = λ k h. covered_found (next_cube c (cubes k)) (every_at n (next_covered c cubes n) p.1.0 k h);
   }
 
-  pub cover_test : {origin : ℕ} {follow : ℕ → ℕ} → Cover c cubes n origin follow → Passed (coverTests c cubes n)
-  unfolding coverTests nextCovered
+  pub cover_test : {origin : ℕ} {follow : ℕ → ℕ} → Cover c cubes n origin follow → Passed (cover_tests c cubes n)
+  unfolding cover_tests next_covered
   cover_test {origin} {follow} cover =
-      (found_covered (start c) (λ free. let there = cover.starts free in (origin, there.0, there.1)), (every_all n (nextCovered c cubes n) (λ k h. found_covered (next_cube c (cubes k)) (λ free. let there = cover.follows k h free in (follow k, there.0, there.1))), tt))
+      (found_covered (start c) (λ free. let there = cover.starts free in (origin, there.0, there.1)), (every_all n (next_covered c cubes n) (λ k h. found_covered (next_cube c (cubes k)) (λ free. let there = cover.follows k h free in (follow k, there.0, there.1))), tt))
 
 -- ---- the number that 18 names
 
 module _ (c : Circuit) (cubes : ℕ → Cube) (n : ℕ) where
-  pub uncovered_at : (k : ℕ) → k < n → ((m : ℕ) → m < k → nextCovered c cubes n m ≡ true) → nextCovered c cubes n k ≡ false → k ≡ firstUncovered c cubes n
-  unfolding firstUncovered
+  pub uncovered_at : (k : ℕ) → k < n → ((m : ℕ) → m < k → next_covered c cubes n m ≡ true) → next_covered c cubes n k ≡ false → k ≡ first_uncovered c cubes n
+  unfolding first_uncovered
   uncovered_at k h before e = sym (first_at n _ k h (ap not e) (λ m l. ap not (before m l)))
 
-  pub uncovered_none : ((m : ℕ) → m < n → nextCovered c cubes n m ≡ true) → n ≡ firstUncovered c cubes n
-  unfolding firstUncovered
+  pub uncovered_none : ((m : ℕ) → m < n → next_covered c cubes n m ≡ true) → n ≡ first_uncovered c cubes n
+  unfolding first_uncovered
   uncovered_none all = sym (first_none n _ (λ m l. ap not (all m l)))
 
   -- it is a number below n exactly where one of them is not covered
-  pub uncovered_fails : firstUncovered c cubes n < n → every n (nextCovered c cubes n) ≡ false
-  uncovered_fails h = by_test (every n (nextCovered c cubes n)) (λ t. absurd (omega (arith, uncovered_none (every_at n (nextCovered c cubes n) t)))) (λ f. f)
+  pub uncovered_fails : first_uncovered c cubes n < n → every n (next_covered c cubes n) ≡ false
+  uncovered_fails h = by_test (every n (next_covered c cubes n)) (λ t. absurd (omega (arith, uncovered_none (every_at n (next_covered c cubes n) t)))) (λ f. f)
 
-  pub uncovered_passes : n ≤ firstUncovered c cubes n → every n (nextCovered c cubes n) ≡ true
-  unfolding firstUncovered
-  uncovered_passes h = every_all n _ (λ m l. not-false _ (first_nowhere n (λ k. not (nextCovered c cubes n k)) h m l))
+  pub uncovered_passes : n ≤ first_uncovered c cubes n → every n (next_covered c cubes n) ≡ true
+  unfolding first_uncovered
+  uncovered_passes h = every_all n _ (λ m l. not-false _ (first_nowhere n (λ k. not (next_covered c cubes n k)) h m l))
 
 -- ---- a run's own cubes
 
 -- the cubes of a run that stops pass
-pub run_passes : (c : Circuit) (w room n j : ℕ) → run c w room ≡ stops n j → Passed (coverTests c (cube_at c w) n)
+pub run_passes : (c : Circuit) (w room n j : ℕ) → run c w room ≡ stops n j → Passed (cover_tests c (cube_at c w) n)
 run_passes c w room n j stopped = cover_test c (cube_at c w) n (run_chain c w room n j stopped).cover

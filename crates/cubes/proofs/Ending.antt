@@ -1,17 +1,16 @@
 -- Ended chains: with no cube each verdict is never, and with j = n nothing is settled; no cubes are a chain, and a cover, exactly where a constraint is 0 in
 -- the start. Assumes nothing.
 use mathlib.Core.Path.{◌≡◌, refl, ap, ◌∙◌}
-use mathlib.Core.Bool.{true, ◌&&◌, and-true}
+use mathlib.Core.Bool.{and-true}
 use Prim.Native.Nat.{ℕ, zero, suc, ◌-◌}
 use native.Mathlib.Omega.{arith}
-use lib.Dec.{leb}
 use lib.ListN.{length, replicate}
 use Rattle.three.specs.Lists.{every}
 use Rattle.three.specs.Value.{unknown, low}
 use Rattle.three.specs.Cube.{Cube, known_fields}
 use Rattle.circuit.specs.Circuit.{Circuit}
 use Rattle.cubes.specs.Run.{watched, blocked, start, merge_from, verdict, settled}
-use Rattle.cubes.specs.Given.{is_chain, startsChain}
+use Rattle.cubes.specs.Given.{is_chain, starts_chain}
 
 pub blank_known : (fields : ℕ) → known_fields (replicate fields unknown) ≡ 0
 unfolding known_fields
@@ -31,5 +30,5 @@ module _ (c : Circuit) (cubes : ℕ → Cube) where
   none_settled n = ap known_fields (ended_settles n) ∙ blank_known (length c.latches)
 
   pub chain_of_none : is_chain c cubes 0 0 ≡ blocked c (start c)
-  unfolding is_chain startsChain every
+  unfolding is_chain starts_chain every
   chain_of_none = and-true _

@@ -3,7 +3,7 @@
 use mathlib.Core.Path.{◌≡◌, refl, sym, ap, ◌∙◌}
 use mathlib.Core.Bool.{Bool, true, false, not}
 use mathlib.Core.List.{List, [], ◌∷◌, map}
-use Prim.Native.Nat.{ℕ, zero, suc, ◌-◌, ◌<◌, ◌≤◌}
+use Prim.Native.Nat.{ℕ, zero, suc, ◌<◌, ◌≤◌}
 use native.Mathlib.Omega.{arith}
 use lib.ListN.{length, get_or, replicate}
 use Rattle.three.specs.Lists.{tabulate, adjust}
@@ -39,10 +39,10 @@ unfolding known code
 not_unknown false e = let z : ◌≡◌ {A = ℕ} 1 0 = ap code e in omega arith
 not_unknown true e = let z : ◌≡◌ {A = ℕ} 2 0 = ap code e in omega arith
 
-get_d_known : (bs : List Bool) (i : ℕ) → i < length bs → get_or (map known bs) i unknown ≡ known (get_or bs i false)
-get_d_known [] i h = absurd (omega arith)
-get_d_known (b ∷ bs) zero h = refl
-get_d_known (b ∷ bs) (suc i) h = get_d_known bs i (omega arith)
+get_or_known : (bs : List Bool) (i : ℕ) → i < length bs → get_or (map known bs) i unknown ≡ known (get_or bs i false)
+get_or_known [] i h = absurd (omega arith)
+get_or_known (b ∷ bs) zero h = refl
+get_or_known (b ∷ bs) (suc i) h = get_or_known bs i (omega arith)
 
 module _ {c : Circuit} {cubes : ℕ → Cube} {n j : ℕ} (chain : Chain c cubes n j) (none : c.constraints ≡ []) (single : (k : ℕ) → k < n → known_fields (cubes k) ≡ length c.latches) (e : Execution c) where
   pub chain_exact : Exact cubes n e
@@ -70,7 +70,7 @@ module _ {c : Circuit} {cubes : ℕ → Cube} {n j : ℕ} (chain : Chain c cubes
       many k = unfold read_after in readings_sized boolean c _ _ _
 
       is : (k : ℕ) → k < n → get_or (watched_in c (cubes k)) i unknown ≡ known (lit k)
-      is k l = ap (λ (v : Cube). get_or v i unknown) (watched_are bare k l) ∙ get_d_known (watched_after e k) i (omega (arith, h, many k))
+      is k l = ap (λ (v : Cube). get_or v i unknown) (watched_are bare k l) ∙ get_or_known (watched_after e k) i (omega (arith, h, many k))
 
       both : (b : Bool) → lit 0 ≡ b → (k : ℕ) → k < n → lit k ≡ not b → Sometimes n (watched_after e) i true × Sometimes n (watched_after e) i false
       both true a k l d = ((0, omega (arith, l), a), (k, l, d))

@@ -1,7 +1,7 @@
 -- Chains, closed and ended, are covers: after cube k comes cube k + 1, after the last cube j. A closed chain goes round; where j = n nothing comes after the
 -- last, so no execution is legal at tick n. Assumes nothing.
 use mathlib.Core.Path.{◌≡◌, refl, sym, ap, ◌∙◌}
-use mathlib.Core.Bool.{Bool, true, false}
+use mathlib.Core.Bool.{Bool, false}
 use mathlib.Core.List.{[]}
 use Prim.Native.Nat.{ℕ, zero, suc, ◌+◌, ◌-◌, ◌%◌, ◌≤◌, ◌<◌}
 use native.Mathlib.Decide.{dec_lt}

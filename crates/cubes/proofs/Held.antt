@@ -15,8 +15,8 @@ use Rattle.three.specs.Cube.{Cube}
 use Rattle.three.specs.Record.{bytes_for, byte_at, pack, unpack, sound}
 use Rattle.three.specs.RecordInCode.{IsRecord}
 use Rattle.three.proofs.Lists.{by_test}
-use Rattle.three.proofs.Loops.{get_d_paste, over_paste}
-use Rattle.three.proofs.Pack.{length_pack, get_d_pack, unpack_pack, unpack_take}
+use Rattle.three.proofs.Loops.{get_or_paste, over_paste}
+use Rattle.three.proofs.Pack.{length_pack, get_or_pack, unpack_pack, unpack_take}
 use Rattle.three.proofs.Soundness.{sound_pack, sound_take}
 use Rattle.cubes.specs.Run.{hold, differing}
 use Rattle.cubes.specs.HeldInCode.{held_pair, held_byte, kept_byte, differing_byte}
@@ -33,7 +33,7 @@ module _ (v : Cube) (i : ℕ) where
   pub packed_byte : get_or (pack v) i 0 ≡ byte_at v i
   packed_byte =
       by_test (ltb i (length (pack v)))
-      (λ t. get_d_pack v i (rw (length_pack v) at (ltb-true i (length (pack v)) t)))
+      (λ t. get_or_pack v i (rw (length_pack v) at (ltb-true i (length (pack v)) t)))
       (λ t. let h = ltb-false i (length (pack v)) t in get_or-eq_default (pack v) 0 h ∙ sym (byte_beyond v i (rw (length_pack v) at h)))
 
   -- a record that was stored into zeros
@@ -53,7 +53,7 @@ module _ (v : Cube) (i : ℕ) where
 
       beyond : length (pack v) ≤ i → get_or (over (pack v) (replicate n 0)) i 0 ≡ byte_at v i
       beyond h =
-          rw (← over_paste (replicate n 0) (pack v)) (get_d_paste (replicate n 0) 0 (pack v) (length (pack v)) i 0 (omega arith) (omega arith) (rw zero-add h))
+          rw (← over_paste (replicate n 0) (pack v)) (get_or_paste (replicate n 0) 0 (pack v) (length (pack v)) i 0 (omega arith) (omega arith) (rw zero-add h))
           ∙ zeros n i ∙ sym (byte_beyond v i (rw (length_pack v) at h))
 
 -- bytes that are those of a record open with it
@@ -62,7 +62,7 @@ module _ {f : ℕ} (bytes : List ℕ) (v : Cube) (sized : length v ≡ f) (room 
   opens =
       let long : length (take (bytes_for f) bytes) ≡ bytes_for f = length-take-le (bytes_for f) bytes room in
       ext_get_or 0 (take (bytes_for f) bytes) (pack v) (long ∙ sym (rw (length_pack, sized)))
-      (λ i h. let l : i < bytes_for f = omega arith in get_or-take (bytes_for f) bytes i 0 l ∙ same i l ∙ sym (get_d_pack v i (rw sized l)))
+      (λ i h. let l : i < bytes_for f = omega arith in get_or-take (bytes_for f) bytes i 0 l ∙ same i l ∙ sym (get_or_pack v i (rw sized l)))
 
   pub bytes_read : unpack f bytes ≡ v
   bytes_read = sym (unpack_take f bytes) ∙ ap₂ unpack (sym sized) opens ∙ unpack_pack v

@@ -13,7 +13,7 @@ use Rattle.three.specs.Value.{Three, unknown, low, high, code}
 use Rattle.three.specs.Cube.{Cube, alike, allows, subsumes}
 use Rattle.three.specs.Record.{bytes_for, byte_at, pack}
 use Rattle.three.proofs.Lists.{iff, every_ext}
-use Rattle.three.proofs.Pack.{get_d_pack}
+use Rattle.three.proofs.Pack.{get_or_pack}
 use Rattle.three.proofs.Bytewise.{covers, covers_subsumes}
 use Rattle.cubes.specs.Buffer.{cube_bytes}
 use Rattle.cubes.specs.BufferInCode.{raised_byte, marked_byte}
@@ -58,8 +58,8 @@ unmarked_covers : (v b : Cube) (k : ℕ) → k < bytes_for (suc (length v)) → 
 unfolding code
 unmarked_covers v b k h e =
     ap₂ (λ (x y : ℕ). eqb (bit_and x y) x)
-    (sym (get_d_pack (unknown ∷ v) k h ∙ byte_marked unknown v k))
-    (sym (get_d_pack (unknown ∷ b) k (rw (← e) h) ∙ byte_marked unknown b k))
+    (sym (get_or_pack (unknown ∷ v) k h ∙ byte_marked unknown v k))
+    (sym (get_or_pack (unknown ∷ b) k (rw (← e) h) ∙ byte_marked unknown b k))
 
 -- so byte by byte the one covers the other where its cube subsumes the other's, whatever the marks are
 pub cube_covers : {latches : ℕ} (f g : ℕ → ℕ) (p q : ℕ) (v b : Cube) → length v ≡ latches → length b ≡ latches → Within p q → Marked latches f p v → Marked latches g q b

@@ -3,9 +3,8 @@
 use mathlib.Core.Path.{◌≡◌, refl, sym, ap, ◌∙◌}
 use mathlib.Core.Bool.{true}
 use mathlib.Core.List.{List}
-use Prim.Native.Nat.{ℕ, ◌/◌, ◌<◌, ◌≤◌}
+use Prim.Native.Nat.{ℕ, ◌<◌, ◌≤◌}
 use lib.ListN.{length}
-use Rattle.three.specs.Lists.{every}
 use Rattle.three.specs.Record.{bytes_for}
 use Rattle.circuit.specs.declared.Counts.{Counts}
 use Rattle.circuit.specs.Circuit.{Circuit, Latch}
@@ -15,12 +14,12 @@ use Rattle.circuit.proofs.Refusals.{none_append, none_past}
 use Rattle.circuit.proofs.Legality.{board_numbered}
 use Rattle.cubes.specs.declared.ChainAnswer.{ChainAnswer}
 use Rattle.cubes.specs.Run.{cube_at, verdict, settled}
-use Rattle.cubes.specs.Buffer.{cube_bytes, cube_in, sound_in}
+use Rattle.cubes.specs.Buffer.{cube_in}
 use Rattle.cubes.specs.Chain.{room_in, chain_tests, ChainGiven, refused_by, outcome_in, Chained, circuit_in as board_in}
 use Rattle.cubes.specs.Given.{is_chain}
 use Rattle.cubes.specs.GivenInCode.{given_tests}
 use Rattle.cubes.specs.Judge.{JudgeGiven, circuit_in, cubes_in, result_tests, judge_tests, verdict_fields, settled_fields}
-use Rattle.cubes.proofs.Given.{cubes-pass}
+use Rattle.cubes.proofs.Given.{cubes_pass}
 use Rattle.cubes.proofs.Buffered.{latches_counted, verdict_same, settled_same}
 use Rattle.cubes.proofs.Chains.{chain_same, run_is_chain, Relit, cube_relit, chain_relit}
 use Rattle.cubes.proofs.Chaining.{says, outcome_is, cube_is, own_few, own_sound}
@@ -47,7 +46,7 @@ module _ (g : ChainGiven) (r : ChainAnswer) (cubes : List ℕ) (chained : Chaine
     unfolding room_in
     own_given =
         none_past (board_tests c table) _ (board_numbered c table) board
-        (cubes-pass c cubes r.cubes
+        (cubes_pass c cubes r.cubes
         (rw (← latches_same) (own_few g r cubes chained closed))
         (rw (← latches_same) (own_sound g r cubes chained closed)))
 

@@ -41,16 +41,16 @@ code_below v = omega (arith, code_small v)
 
 -- ---- held latches set to X
 
-get_d_hold : (held : List Bool) (v : Cube) (i : ℕ) → get_or (hold held v) i unknown ≡ blank (get_or v i unknown) (get_or held i false)
+get_or_hold : (held : List Bool) (v : Cube) (i : ℕ) → get_or (hold held v) i unknown ≡ blank (get_or v i unknown) (get_or held i false)
 unfolding hold adjust blank
-get_d_hold [] [] i = refl
-get_d_hold (true ∷ hs) [] zero = refl
-get_d_hold (false ∷ hs) [] zero = refl
-get_d_hold (h ∷ hs) [] (suc i) = get_d_hold hs [] i
-get_d_hold [] (x ∷ v) zero = refl
-get_d_hold [] (x ∷ v) (suc i) = refl
-get_d_hold (h ∷ hs) (x ∷ v) zero = refl
-get_d_hold (h ∷ hs) (x ∷ v) (suc i) = get_d_hold hs v i
+get_or_hold [] [] i = refl
+get_or_hold (true ∷ hs) [] zero = refl
+get_or_hold (false ∷ hs) [] zero = refl
+get_or_hold (h ∷ hs) [] (suc i) = get_or_hold hs [] i
+get_or_hold [] (x ∷ v) zero = refl
+get_or_hold [] (x ∷ v) (suc i) = refl
+get_or_hold (h ∷ hs) (x ∷ v) zero = refl
+get_or_hold (h ∷ hs) (x ∷ v) (suc i) = get_or_hold hs v i
 
 kept_pair : (v : Three) (h : Bool) → bit_and (code v) (3 - held_pair h) ≡ code (blank v h)
 unfolding code held_pair blank
@@ -69,7 +69,7 @@ kept_four a b c d p q r s =
 
 pub kept_byte_lem : (held : List Bool) (v : Cube) (k : ℕ) → kept_byte (byte_at v k) (held_byte held k) ≡ byte_at (hold held v) k
 unfolding byte_at held_byte
-kept_byte_lem held v k = simp get_d_hold (kept_four _ _ _ _ _ _ _ _)
+kept_byte_lem held v k = simp get_or_hold (kept_four _ _ _ _ _ _ _ _)
 
 -- ---- latches whose value differs are held too
 
@@ -111,16 +111,16 @@ held_or true false = refl
 held_or false true = refl
 held_or false false = refl
 
-get_d_widened : (held : List Bool) (a b : Cube) → length held ≡ length a → length a ≡ length b → (i : ℕ)
+get_or_widened : (held : List Bool) (a b : Cube) → length held ≡ length a → length a ≡ length b → (i : ℕ)
     → get_or (adjust ◌||◌ held (differing a b)) i false ≡ (get_or held i false || not (alike (get_or a i unknown) (get_or b i unknown)))
 unfolding adjust differing zip_with alike code
-get_d_widened [] [] [] e f i = refl
-get_d_widened [] (x ∷ a) b e f i = absurd (omega arith)
-get_d_widened (h ∷ hs) [] b e f i = absurd (omega arith)
-get_d_widened [] [] (y ∷ b) e f i = absurd (omega arith)
-get_d_widened (h ∷ hs) (x ∷ a) [] e f i = absurd (omega arith)
-get_d_widened (h ∷ hs) (x ∷ a) (y ∷ b) e f zero = refl
-get_d_widened (h ∷ hs) (x ∷ a) (y ∷ b) e f (suc i) = get_d_widened hs a b (omega arith) (omega arith) i
+get_or_widened [] [] [] e f i = refl
+get_or_widened [] (x ∷ a) b e f i = absurd (omega arith)
+get_or_widened (h ∷ hs) [] b e f i = absurd (omega arith)
+get_or_widened [] [] (y ∷ b) e f i = absurd (omega arith)
+get_or_widened (h ∷ hs) (x ∷ a) [] e f i = absurd (omega arith)
+get_or_widened (h ∷ hs) (x ∷ a) (y ∷ b) e f zero = refl
+get_or_widened (h ∷ hs) (x ∷ a) (y ∷ b) e f (suc i) = get_or_widened hs a b (omega arith) (omega arith) i
 
 widened_four : (p q r s t u v w : Bool)
     → bit_or (64 * held_pair p + 16 * held_pair q + 4 * held_pair r + held_pair s) (four (held_pair t) (held_pair u) (held_pair v) (held_pair w))
@@ -143,5 +143,5 @@ widened_byte held a b eh ea k =
     let h : ℕ → Bool = λ i. get_or held i false in
     let x : ℕ → Three = λ i. get_or a i unknown in
     let y : ℕ → Three = λ i. get_or b i unknown in
-    simp (get_d_widened held a b eh ea)
+    simp (get_or_widened held a b eh ea)
     (widened_all (h (4 * k)) (h (4 * k + 1)) (h (4 * k + 2)) (h (4 * k + 3)) (x (4 * k)) (x (4 * k + 1)) (x (4 * k + 2)) (x (4 * k + 3)) (y (4 * k)) (y (4 * k + 1)) (y (4 * k + 2)) (y (4 * k + 3)))

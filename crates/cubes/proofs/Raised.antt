@@ -13,7 +13,7 @@ use Rattle.three.specs.Record.{bytes_for, byte_of, byte_at, pack}
 use Rattle.three.specs.RecordInCode.{IsRecord}
 use Rattle.three.proofs.Lists.{tabulate_ext}
 use Rattle.three.proofs.Bytes.{code_small, byte_small}
-use Rattle.three.proofs.Pack.{get_d_pack}
+use Rattle.three.proofs.Pack.{get_or_pack}
 use Rattle.cubes.specs.Buffer.{cube_bytes, pack_cube, cube_of}
 use Rattle.cubes.specs.BufferInCode.{raised_byte, lowered_byte, marked_byte, mark_of}
 use Rattle.cubes.proofs.StoredCube.{cube_repacked, cube_of_sized}
@@ -76,7 +76,7 @@ Marked latches f p v = (i : ℕ) → i < cube_bytes latches → f i ≡ marked_b
 
 pub packed_bytes : {latches : ℕ} (mark : Bool) (v : Cube) → length v ≡ latches → Marked latches (λ i. get_or (pack_cube mark v) i 0) (code (known mark)) v
 unfolding cube_bytes pack_cube
-packed_bytes mark v sized i h = get_d_pack (known mark ∷ v) i (rw sized h) ∙ byte_marked (known mark) v i
+packed_bytes mark v sized i h = get_or_pack (known mark ∷ v) i (rw sized h) ∙ byte_marked (known mark) v i
 
 pub bytes_packed : {latches : ℕ} (f : ℕ → ℕ) (mark : Bool) (v : Cube) → length v ≡ latches → Marked latches f (code (known mark)) v → tabulate (cube_bytes latches) f ≡ pack_cube mark v
 unfolding cube_bytes pack_cube pack
@@ -91,7 +91,7 @@ module _ {latches : ℕ} (bytes : List ℕ) (is : IsRecord (suc latches) bytes) 
   given_bytes i h =
       sym (get_or-take (cube_bytes latches) bytes i 0 h)
       ∙ ap (λ (l : List ℕ). get_or l i 0) (cube_repacked latches bytes is small)
-      ∙ get_d_pack (mark_of bytes ∷ cube_of latches bytes) i (rw (cube_of_sized latches bytes) h)
+      ∙ get_or_pack (mark_of bytes ∷ cube_of latches bytes) i (rw (cube_of_sized latches bytes) h)
       ∙ byte_marked (mark_of bytes) (cube_of latches bytes) i
 
   -- moved down by one field; below the last byte is nothing

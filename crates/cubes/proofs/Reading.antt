@@ -8,8 +8,8 @@ use lib.ListN.{length, get_or, replicate}
 use Rattle.three.specs.Lists.{empty, also}
 use Rattle.three.specs.Value.{unknown, known, boolean, ternary}
 use Rattle.three.specs.Cube.{Cube, Holds, any, off, on, ◌∋◌}
-use Rattle.three.proofs.Lists.{length_tabulate, each_get_d}
-use Rattle.circuit.specs.Circuit.{Circuit, readings, next, lamps}
+use Rattle.three.proofs.Lists.{length_tabulate, each_get_or}
+use Rattle.circuit.specs.Circuit.{Circuit, readings, lamps}
 use Rattle.circuit.proofs.Sound.{readings_sound}
 use Rattle.circuit.proofs.Pass.{readings_sized}
 use Rattle.cubes.specs.Run.{switches_unknown, next_cube, lamps_in, watched, watched_in}
@@ -66,4 +66,4 @@ known_alone false off = refl
 known_alone true on = refl
 
 pub known_at : {cube : Cube} {state : List Bool} → cube ∋ state → (i : ℕ) (v : Bool) → get_or cube i unknown ≡ known v → get_or state i false ≡ v
-known_at within i v e = known_alone v (rw e at (each_get_d within {e = false} any i))
+known_at within i v e = known_alone v (rw e at (each_get_or within {e = false} any i))

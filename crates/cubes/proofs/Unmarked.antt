@@ -16,13 +16,13 @@ use Rattle.cubes.specs.declared.JudgeAnswer.{JudgeAnswer}
 use Rattle.cubes.specs.Run.{blocked, next_cube, start, Found, at, nowhere, search}
 use Rattle.cubes.specs.Buffer.{cube_bytes, Remarked}
 use Rattle.cubes.specs.Chain.{room_in}
-use Rattle.cubes.specs.Given.{cubeTests, covered, nextCovered, coverTests, firstUncovered, is_chain}
+use Rattle.cubes.specs.Given.{cube_tests, covered, next_covered, cover_tests, first_uncovered, is_chain}
 use Rattle.cubes.specs.Judge.{JudgeGiven, circuit_in, cubes_in, result_tests, judge_tests, verdict_fields, settled_fields, Judged}
 use Rattle.cubes.proofs.Buffered.{verdict_same, settled_same}
 use Rattle.cubes.proofs.Chains.{chain_same}
 
-pub cube_tests_unmarked : (c : Counts) {n : ℕ} {buffer other : List ℕ} → Remarked c.latches n buffer other → cubeTests c buffer n ≡ cubeTests c other n
-unfolding cubeTests room_in
+pub cube_tests_unmarked : (c : Counts) {n : ℕ} {buffer other : List ℕ} → Remarked c.latches n buffer other → cube_tests c buffer n ≡ cube_tests c other n
+unfolding cube_tests room_in
 cube_tests_unmarked c {n} alike = λ i. leb n (alike.long i / cube_bytes c.latches) or 10 ∷ alike.good i or 14 ∷ []
 
 -- ---- a cover looks at the first n cubes alone
@@ -40,17 +40,17 @@ module _ (c : Circuit) (f f' : ℕ → Cube) (n : ℕ) (same : (k : ℕ) → k <
   unfolding covered
   covered_same b = ap (λ (s : Found). elim s [ at k ↦ true | nowhere ↦ blocked c b ]) (search_same f f' b n same)
 
-  next_covered_same : (k : ℕ) → k < n → nextCovered c f n k ≡ nextCovered c f' n k
-  unfolding nextCovered
+  next_covered_same : (k : ℕ) → k < n → next_covered c f n k ≡ next_covered c f' n k
+  unfolding next_covered
   next_covered_same k h = covered_same (next_cube c (f k)) ∙ ap (λ (v : Cube). covered c f' n (next_cube c v)) (same k h)
 
-  pub cover_tests_same : coverTests c f n ≡ coverTests c f' n
-  unfolding coverTests
+  pub cover_tests_same : cover_tests c f n ≡ cover_tests c f' n
+  unfolding cover_tests
   cover_tests_same =
-      ap₂ (λ (s t : Bool). s or 17 ∷ t or 18 ∷ []) (covered_same (start c)) (every_ext n (nextCovered c f n) (nextCovered c f' n) next_covered_same)
+      ap₂ (λ (s t : Bool). s or 17 ∷ t or 18 ∷ []) (covered_same (start c)) (every_ext n (next_covered c f n) (next_covered c f' n) next_covered_same)
 
-  pub uncovered_same : firstUncovered c f n ≡ firstUncovered c f' n
-  unfolding firstUncovered
+  pub uncovered_same : first_uncovered c f n ≡ first_uncovered c f' n
+  unfolding first_uncovered
   uncovered_same = first_ext n _ _ (λ k h. ap not (next_covered_same k h))
 
 -- ---- the judge

@@ -5,7 +5,6 @@ use Prim.Native.Nat.{ℕ, suc, ◌^◌, ◌<◌, ◌≤◌}
 use native.Mathlib.Decide.{dec_lt}
 use native.Mathlib.Omega.{arith}
 use lib.ListN.{length}
-use Rattle.three.specs.Cube.{subsumes}
 use Rattle.three.proofs.Merge.{subsumes_self}
 use Rattle.three.proofs.Numbered.{repeats}
 use Rattle.circuit.specs.Circuit.{Circuit}

@@ -1,5 +1,5 @@
 -- What gets a verdict: lamp i is entry i, bad state i is entry O + i, at each tick and in the verdict's record. Assumes nothing.
-use mathlib.Core.Path.{◌≡◌, refl, sym, ap, ◌∙◌}
+use mathlib.Core.Path.{◌≡◌, sym, ap, ◌∙◌}
 use mathlib.Core.Bool.{Bool, true, false}
 use mathlib.Core.List.{List, ◌++◌, map-append}
 use Prim.Native.Nat.{ℕ, ◌+◌, ◌<◌}
@@ -7,9 +7,9 @@ use native.Mathlib.Decide.{dec_lt}
 use native.Mathlib.Omega.{arith}
 use lib.ListN.{length, get_or, length-map, get_or-append}
 use lib.Seq.{get_or-append-add}
-use Rattle.three.specs.Value.{Three, unknown, known, code}
+use Rattle.three.specs.Value.{unknown, known, code}
 use Rattle.three.specs.Record.{unpack}
-use Rattle.three.proofs.Lists.{get_d_tabulate, get_d_beyond}
+use Rattle.three.proofs.Lists.{get_or_tabulate, get_or_beyond}
 use Rattle.circuit.specs.Circuit.{Circuit, readings}
 use Rattle.cubes.specs.Run.{watched}
 use Rattle.cubes.specs.Execution.{Execution, read_after, lamps_after, bads_after, watched_after}
@@ -35,7 +35,7 @@ module _ {c : Circuit} (e : Execution c) (t : ℕ) where
 
 pub fewer_fields : (f more : ℕ) (bytes : List ℕ) (i : ℕ) → i < f → get_or (unpack f bytes) i unknown ≡ get_or (unpack (f + more) bytes) i unknown
 unfolding unpack
-fewer_fields f more bytes i h = get_d_tabulate f _ i unknown h ∙ sym (get_d_tabulate (f + more) _ i unknown (omega arith))
+fewer_fields f more bytes i h = get_or_tabulate f _ i unknown h ∙ sym (get_or_tabulate (f + more) _ i unknown (omega arith))
 
 -- a field that is known is one of them
 pub unknown_known : (v : Bool) → unknown ≡ known v → ⊥
@@ -49,4 +49,4 @@ known_below f bytes i v is = go (dec_lt i f)
   where
     go : Dec (i < f) → i < f
     go (yes h) = h
-    go (no h) = absurd (unknown_known v (sym (get_d_beyond f _ i unknown (omega arith)) ∙ is))
+    go (no h) = absurd (unknown_known v (sym (get_or_beyond f _ i unknown (omega arith)) ∙ is))

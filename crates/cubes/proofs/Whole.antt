@@ -3,14 +3,14 @@ use mathlib.Core.Path.{◌≡◌, refl, sym, ap, ◌∙◌}
 use mathlib.Core.Bool.{Bool, true, false, not}
 use mathlib.Core.List.{List, [], ◌∷◌, map}
 use mathlib.Core.Logic.{◌⊎◌, inl, inr}
-use Prim.Native.Nat.{ℕ, zero, suc, ◌-◌, ◌≤◌}
+use Prim.Native.Nat.{ℕ, zero, suc, ◌≤◌}
 use native.Mathlib.Nat.{zero-add}
 use native.Mathlib.Omega.{arith}
 use lib.ListN.{length, get_or}
 use Rattle.three.specs.Lists.{empty, also}
 use Rattle.three.specs.Value.{Three, unknown, low, high, code, known}
 use Rattle.three.specs.Cube.{Cube, alike, blank, agree, merged, known_fields, any, off, on, ◌∋◌}
-use Rattle.three.proofs.Merge.{get_d_merged}
+use Rattle.three.proofs.Merge.{get_or_merged}
 use Rattle.cubes.specs.Run.{merge}
 use Rattle.cubes.proofs.Wider.{merge_sized}
 
@@ -59,7 +59,7 @@ module _ (cubes : ℕ → Cube) (size i : ℕ) (sized : (k : ℕ) → length (cu
     where
       step : get_or (merge cubes 0 (suc more)) i unknown ≡ agree (get_or (merge cubes 0 more) i unknown) (known (v (suc more)))
       step = ap (λ (m : ℕ). get_or (merged (merge cubes 0 more) (cubes m)) i unknown) (zero-add (suc more))
-          ∙ get_d_merged (merge cubes 0 more) (cubes (suc more)) (merge_sized cubes size sized 0 more ∙ sym (sized (suc more))) i ∙ ap (agree (get_or (merge cubes 0 more) i unknown)) (is (suc more) (omega arith))
+          ∙ get_or_merged (merge cubes 0 more) (cubes (suc more)) (merge_sized cubes size sized 0 more ∙ sym (sized (suc more))) i ∙ ap (agree (get_or (merge cubes 0 more) i unknown)) (is (suc more) (omega arith))
 
       last : get_or (merge cubes 0 more) i unknown ≡ known (v 0) → (agree (known (v 0)) (known (v (suc more))) ≡ known (v 0)) ⊎ (v (suc more) ≡ not (v 0)) → Kept v (suc more) (get_or (merge cubes 0 (suc more)) i unknown)
       last e (inl a) = all (step ∙ ap (λ (x : Three). agree x (known (v (suc more)))) e ∙ a)

@@ -2,11 +2,11 @@
 use Rattle.std.specs.Prelude.{◌≡◌, refl, Bool, true, false, [], ◌∷◌, ℕ}
 use Rattle.three.specs.Lists.{adjust, every}
 use Rattle.three.specs.Value.{unknown, low, high, code, both, inverse, ternary}
-use Rattle.three.specs.Cube.{Cube, alike, allows, subsumes, blank, agree, merged}
+use Rattle.three.specs.Cube.{Cube, alike, allows, subsumes, blank}
 use Rattle.circuit.specs.Circuit.{Circuit, signed, value, pass, settle, readings}
 use Rattle.circuit.specs.Refusal.{refusal}
-use Rattle.cubes.specs.Run.{hold, differing, due, switches_unknown, next_cube, watched, watched_in, some_low, blocked, start_field, resets, start, reached, widened, store, search, Ending, stops, full, stepped, stage, cube_at, back, run, merge, merge_from, verdict, settled}
-use Rattle.cubes.specs.Given.{covered, nextCovered, coverTests, same, onward, goesTo, goesOn, startsChain, is_chain}
+use Rattle.cubes.specs.Run.{hold, differing, due, switches_unknown, next_cube, watched, watched_in, some_low, blocked, start_field, resets, start, reached, widened, store, search, Ending, stops, stepped, stage, cube_at, back, run, merge, merge_from, verdict, settled}
+use Rattle.cubes.specs.Given.{covered, next_covered, cover_tests, same, onward, goes_to, goes_on, starts_chain, is_chain}
 
 -- one latch that goes to 1, with this reset, a lamp on it, a bad state where it is 0, and the constraint that it is 0
 abbrev rising : ℕ → Circuit
@@ -36,7 +36,7 @@ abbrev blur : ℕ → Cube
 blur k = unknown ∷ []
 
 unfoldable pub chains : Circuit → ℕ → ℕ → Bool
-unfolding code both inverse ternary alike allows subsumes signed value pass settle readings switches_unknown next_cube some_low blocked start_field resets start every same onward goesTo goesOn startsChain is_chain
+unfolding code both inverse ternary alike allows subsumes signed value pass settle readings switches_unknown next_cube some_low blocked start_field resets start every same onward goes_to goes_on starts_chain is_chain
 chains c n j = is_chain c blur n j
 
 -- one such cube is a chain where the start is X, ended and closed alike; not where the start is 0; where a constraint is 0 in the start cube 0 need not be the resets
@@ -50,8 +50,8 @@ unfolding chains
 no_chains = (refl, refl, refl, refl, refl)
 
 unfoldable pub covers : Circuit → ℕ → ℕ
-unfolding code both inverse ternary alike allows subsumes signed value pass settle readings switches_unknown next_cube some_low blocked start_field resets start search every covered nextCovered coverTests refusal
-covers c n = refusal (coverTests c (λ k. low ∷ []) n)
+unfolding code both inverse ternary alike allows subsumes signed value pass settle readings switches_unknown next_cube some_low blocked start_field resets start search every covered next_covered cover_tests refusal
+covers c n = refusal (cover_tests c (λ k. low ∷ []) n)
 
 -- the cube 0: its next state needs no cover; neither does a start of 1, and then no cube does; a start that is X does
 pub given_covers : (covers (rising 0) 1 ≡ 0) × (covers (rising 1) 1 ≡ 0) × (covers (rising 1) 0 ≡ 0) × (covers (rising 0) 0 ≡ 17) × (covers (rising 2) 1 ≡ 17)

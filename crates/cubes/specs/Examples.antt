@@ -12,11 +12,11 @@ use Rattle.circuit.specs.Table.{plain_counts, ceiling_tests, several, kinds, wid
 use Rattle.cubes.specs.Run.{switches_unknown, next_cube, watched, watched_in, some_low, blocked, start_field, resets, start, merge, merge_from, verdict, settled, hold, differing, due, reached, widened, store, stage, cube_at}
 use Rattle.cubes.specs.Buffer.{cube_bytes, cube_of, sound_cube, cube_in, sound_in, pack_cube, pack_cubes, marked}
 use Rattle.cubes.specs.Chain.{room_in, chain_tests}
-use Rattle.cubes.specs.Given.{cubeTests, same, onward, goesTo, goesOn, startsChain, is_chain}
+use Rattle.cubes.specs.Given.{cube_tests, same, onward, goes_to, goes_on, starts_chain, is_chain}
 use Rattle.cubes.specs.Judge.{JudgeGiven, circuit_in, cubes_in, result_tests, judge_tests, verdict_fields, settled_fields}
 
 unfoldable pub answered : JudgeGiven → List ℕ
-unfolding tabulate every adjust over code decode both inverse ternary alike allows subsumes blank agree merged known_fields byte_of byte_at pack pairs pair_at unpack bad leftover sound signed value pass settle readings refusal all_hold left_by ceiling_tests lamp_tests several kinds width row_tests literal_tests operand_tests table_tests circuit_of word_tests board_tests switches_unknown next_cube watched watched_in some_low blocked start_field resets start merge merge_from verdict settled cube_bytes cube_of sound_cube cube_in sound_in room_in cubeTests same onward goesTo goesOn startsChain is_chain circuit_in cubes_in result_tests judge_tests verdict_fields settled_fields
+unfolding tabulate every adjust over code decode both inverse ternary alike allows subsumes blank agree merged known_fields byte_of byte_at pack pairs pair_at unpack bad leftover sound signed value pass settle readings refusal all_hold left_by ceiling_tests lamp_tests several kinds width row_tests literal_tests operand_tests table_tests circuit_of word_tests board_tests switches_unknown next_cube watched watched_in some_low blocked start_field resets start merge merge_from verdict settled cube_bytes cube_of sound_cube cube_in sound_in room_in cube_tests same onward goes_to goes_on starts_chain is_chain circuit_in cubes_in result_tests judge_tests verdict_fields settled_fields
 answered g =
     let number : ℕ = refusal (judge_tests g) in
     number ∷ left_by number (known_fields (settled_fields g)) 0 ∷ (left_by number (over (pack (verdict_fields g)) g.verdict) g.verdict ++ left_by number (over (pack (settled_fields g)) g.settled) g.settled)

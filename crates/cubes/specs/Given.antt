@@ -1,5 +1,5 @@
 -- Cubes that a caller gives, n of them (specification, 5.11 and 5.12): sound records; no legal execution leaves them; a chain, closed or ended. Assumes nothing.
-use Rattle.std.specs.Prelude.{Bool, true, false, not, cond, ◌&&◌, ◌||◌, List, [], ◌∷◌, ℕ, suc, leb, ltb}
+use Rattle.std.specs.Prelude.{Bool, true, not, cond, ◌&&◌, ◌||◌, List, [], ◌∷◌, ℕ, suc, leb, ltb}
 use Rattle.three.specs.Lists.{every, first}
 use Rattle.three.specs.Cube.{Cube, subsumes}
 use Rattle.circuit.specs.declared.Counts.{Counts}

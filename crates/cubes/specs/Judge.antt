@@ -10,7 +10,7 @@ use Rattle.circuit.specs.Table.{verdicts, circuit_of, board_tests}
 use Rattle.cubes.specs.declared.JudgeAnswer.{JudgeAnswer}
 use Rattle.cubes.specs.Buffer.{cube_in}
 use Rattle.cubes.specs.Run.{verdict, settled}
-use Rattle.cubes.specs.Given.{cubeTests, is_chain}
+use Rattle.cubes.specs.Given.{cube_tests, is_chain}
 
 -- What the call is given: counts, table, the buffer of cubes, how many they are and where they go back to, and the two buffers of the results as they are lent
 pub record JudgeGiven : Type 0 where
@@ -36,7 +36,7 @@ module _ (g : JudgeGiven) where
 
   -- 3, 16, 10 for the table, 11, 10 for the cubes, 14, 19, 10 for the results
   unfoldable pub judge_tests : List Test
-  judge_tests = board_tests g.counts g.table ++ (cubeTests g.counts g.cubes g.n ++ (is_chain circuit_in cubes_in g.n g.j or 19 ∷ result_tests))
+  judge_tests = board_tests g.counts g.table ++ (cube_tests g.counts g.cubes g.n ++ (is_chain circuit_in cubes_in g.n g.j or 19 ∷ result_tests))
 
   -- the verdict and the settled record of the given cubes
   unfoldable pub verdict_fields : Cube

@@ -1,4 +1,5 @@
 // What the calls over cubes answer; specs and proofs: the run, what it promises, and their laws (specification, 5).
+#![tactic(auto)]
 
 // The call chain answers n and j.
 #[repr(C)]

@@ -11,7 +11,7 @@ use Rattle.circuit.specs.Table.{literals_at, gates_at, literals}
 use Rattle.circuit.specs.declared.Counts.{Counts}
 use Rattle.pass.specs.ValuesInCode.{Readable}
 use Rattle.circuit.proofs.Rules.{and_fails, and_holds}
-use Rattle.drawn.specs.Drawing.{Drawing, single, left, right, defined, all_defined}
+use Rattle.drawn.specs.Drawing.{Drawing, defined, all_defined}
 use Rattle.defined.specs.Places.{Spoken}
 
 -- ---- the literals are in the words

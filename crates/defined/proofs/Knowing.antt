@@ -10,10 +10,10 @@ use borrow.Author.Tests.{eqb-true, eq-eqb, ne_eqb, lt-ltb, ltb-true}
 use lib.Dec.{ltb, eqb}
 use lib.ListN.{length, get_or, set}
 use lib.Seq.{get_or-set_same, get_or-set_other}
-use Rattle.three.specs.Lists.{every, first}
+use Rattle.three.specs.Lists.{first}
 use Rattle.three.proofs.First.{first_finds, first_holds}
 use Rattle.three.proofs.Lists.{by_test, every_all}
-use Rattle.drawn.specs.Depth.{Source, leaf, gate}
+use Rattle.drawn.specs.Depth.{leaf}
 use Rattle.drawn.specs.Drawing.{Drawing, leaves, lines, own, once, defined, gate_of, source}
 use Rattle.drawn.proofs.Proper.{Owned, owned_holds, source_gate, own_same}
 use Rattle.order.specs.Walk.{source_of}

@@ -7,7 +7,7 @@ use native.Mathlib.Omega.{arith}
 use lib.ListN.{length, get_or}
 use Rattle.circuit.specs.declared.Counts.{Counts}
 use Rattle.circuit.specs.Table.{variables, gates_at}
-use Rattle.drawn.specs.Drawing.{Drawing, leaves, lines, left, right, source, left_source, right_source}
+use Rattle.drawn.specs.Drawing.{Drawing, leaves, lines, source, left_source, right_source}
 use Rattle.order.specs.Walk.{operand, Operands, Found}
 use Rattle.order.specs.Sort.{Depths, Ordered}
 use Rattle.order.proofs.Linked.{found_depths, found_loopless, found_order}

@@ -1,4 +1,6 @@
 // Refusals 20, 21 and 22 (specification, 4.11), and the order of the gates.
+#![tactic(auto)]
+
 ghost use Rattle.std.specs.Prelude.{◌≡◌, List, [], ℕ, ◌+◌, ◌*◌, ◌/◌, ◌<◌, ◌≤◌, length, get_or};
 ghost use Rattle.circuit.specs.Table.{variables};
 ghost use Rattle.three.specs.Lists.{every};

@@ -4,9 +4,8 @@ use mathlib.Core.List.{List, ◌++◌}
 use Prim.Native.Nat.{ℕ, zero, suc, ◌<◌, max}
 use native.Mathlib.Omega.{arith}
 use lib.Dec.{leb, eqb}
-use Rattle.three.specs.Lists.{every}
 use Rattle.three.proofs.Lists.{every_ext}
-use Rattle.drawn.specs.Numbers.{pick, by_key}
+use Rattle.drawn.specs.Numbers.{by_key}
 use Rattle.drawn.specs.Depth.{Source, leaf, gate, depth, deep, loopless, order}
 use Rattle.drawn.proofs.Rounds.{pick_ext}
 

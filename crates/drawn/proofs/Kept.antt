@@ -8,7 +8,7 @@ use native.Mathlib.Omega.{arith}
 use native.Mathlib.Decide.{dec_lt, ℕ_discrete}
 use lib.ListN.{length, get_or}
 use Rattle.three.specs.Lists.{tabulate}
-use Rattle.three.proofs.Lists.{tabulate_ext, tabulate_get_d}
+use Rattle.three.proofs.Lists.{tabulate_ext, tabulate_get_or}
 use Rattle.circuit.specs.Table.{table_length, top, literals_at, gates_at}
 use Rattle.circuit.specs.RulesInCode.{Legal}
 use Rattle.drawn.specs.Depth.{deep}
@@ -20,7 +20,7 @@ use Rattle.drawn.proofs.Tables.{table_length_lem, table_next, table_reset, table
 
 -- two lists of one length with the same entries
 same_entries : (xs ys : List ℕ) → length xs ≡ length ys → ((k : ℕ) → k < length xs → get_or xs k 0 ≡ get_or ys k 0) → xs ≡ ys
-same_entries xs ys e h = sym (tabulate_get_d xs 0) ∙ tabulate_ext (length xs) _ _ h ∙ ap (λ n. tabulate n (λ k. get_or ys k 0)) e ∙ tabulate_get_d ys 0
+same_entries xs ys e h = sym (tabulate_get_or xs 0) ∙ tabulate_ext (length xs) _ _ h ∙ ap (λ n. tabulate n (λ k. get_or ys k 0)) e ∙ tabulate_get_or ys 0
 
 module _ (d : Drawing) (p : Proper d) where
   abbrev depth_of : ℕ → ℕ

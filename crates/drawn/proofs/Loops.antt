@@ -1,14 +1,13 @@
 -- A gate is deeper than there are gates exactly if it leads to a loop: along a path depth falls, and a walk of more gates than there are
 -- meets one of them twice. Assumes nothing.
 use mathlib.Core.Path.{◌≡◌, refl, sym, ap, ap₂}
-use mathlib.Core.Bool.{true, false}
+use mathlib.Core.Bool.{false}
 use mathlib.Core.Logic.{inl, inr, ◌↔◌}
 use Prim.Native.Nat.{ℕ, zero, suc, ◌+◌, ◌-◌, ◌<◌, ◌≤◌, max}
 use native.Mathlib.Nat.{le-max_left, le-max_right, max-le}
 use native.Mathlib.Omega.{arith}
 use borrow.Author.Tests.{leb-true, leb-false, lt-leb}
 use lib.Dec.{leb}
-use Rattle.three.specs.Lists.{every}
 use Rattle.three.proofs.First.{failing}
 use Rattle.three.proofs.Lists.{by_test, every_fails}
 use Rattle.drawn.specs.Depth.{Source, leaf, gate, depth, deep, loopless}
@@ -103,7 +102,7 @@ module _ (left right : ℕ → Source) where
     walk zero i h e = record { at = λ k. i; first = refl; few = λ k l. h; step = λ k l. absurd (omega arith) }
     walk (suc n) i h e =
         let d = deeper n i h e in
-        let w = walk n d.on d.few d.deep-on in
+        let w = walk n d.on d.few d.deep_on in
         record { at = behind i w.at; first = refl; few = few_behind w.at h w.few; step = step_behind w.at (rw w.first d.reads) w.step }
       where
         few_behind : (f : ℕ → ℕ) → i < count → ((k : ℕ) → k ≤ n → f k < count) → (k : ℕ) → k ≤ suc n → behind i f k < count

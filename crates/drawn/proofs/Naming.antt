@@ -1,6 +1,5 @@
 -- The new numbers: each line has one, a defined variable's is its line's, and a gate's operands come before it. Assumes nothing.
 use mathlib.Core.Path.{◌≡◌, refl, sym, ap, ◌∙◌}
-use mathlib.Core.Bool.{true, false}
 use mathlib.Core.Logic.{inl, inr}
 use Prim.Native.Nat.{ℕ, zero, suc, ◌+◌, ◌*◌, ◌-◌, ◌/◌, ◌<◌, ◌≤◌}
 use native.Mathlib.Omega.{arith}
@@ -8,10 +7,9 @@ use native.Mathlib.Decide.{dec_lt}
 use borrow.Author.Tests.{ltb-true, ltb-false, eqb-true, lt-ltb, le-ltb, eq-eqb}
 use lib.Dec.{ltb, eqb}
 use lib.ListN.{length}
-use Rattle.three.specs.Lists.{first}
 use Rattle.three.proofs.First.{first_holds, first_only}
 use Rattle.three.proofs.Lists.{by_test}
-use Rattle.drawn.specs.Depth.{Source, leaf, gate, deep, order}
+use Rattle.drawn.specs.Depth.{gate, deep, order}
 use Rattle.drawn.specs.DepthInCode.{Reads}
 use Rattle.drawn.specs.Drawing.{Drawing, leaves, lines, own, left, right, source, left_source, right_source, gate_order, gate_at, line_at, place, name}
 use Rattle.drawn.proofs.Sorting.{Before, ranked_apart, Sorted, sorts}

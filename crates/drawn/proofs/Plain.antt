@@ -7,16 +7,16 @@ use Prim.Native.Nat.{ℕ, ◌+◌, ◌*◌, ◌-◌, ◌/◌, ◌≤◌, ◌<◌
 use native.Mathlib.Omega.{arith}
 use native.Mathlib.Decide.{ℕ_discrete}
 use borrow.Author.Tests.{eqb-true, leb-true, le-leb}
-use lib.Dec.{leb, eqb}
+use lib.Dec.{leb}
 use lib.ListN.{get_or, length}
 use Rattle.three.proofs.Lists.{by_test, every_at}
 use Rattle.circuit.proofs.Legality.{legal}
 use Rattle.circuit.specs.RulesInCode.{Passed, Legal}
 use Rattle.circuit.specs.declared.Counts.{Counts}
-use Rattle.circuit.specs.Table.{variables, top, ceiling_tests, table_length, Kind, input, latch, literal, gate, kinds, row_tests, literal_tests, operand_tests}
+use Rattle.circuit.specs.Table.{variables, top, table_length, Kind, input, latch, literal, gate, kinds, row_tests, literal_tests, operand_tests}
 use Rattle.circuit.proofs.Refusals.{passed_refusal}
 use Rattle.text.specs.Outcome.{accepted, onward}
-use Rattle.text.specs.Text.{magic, fits, owns, words, shown_own, line_tests, Lines, read_lines, header, counts_of, count_tests, header_tests, Content, ending_of, read_text}
+use Rattle.text.specs.Text.{magic, owns, words, shown_own, line_tests, Lines, read_lines, counts_of, count_tests, header_tests, Content, ending_of, read_text}
 use Rattle.text.proofs.Outcomes.{append_passed, accepted_same}
 use Rattle.text.proofs.Heads.{head_passed, head_bounded}
 use Rattle.text.proofs.Steps.{line_fits, line_accepted, line_numbered, header_accepted}

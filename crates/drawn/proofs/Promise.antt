@@ -20,7 +20,7 @@ use Rattle.circuit.proofs.Refusals.{Numbered, stops, past, none, passes, refusal
 use Rattle.text.specs.Outcome.{Outcome, accepted, refused, tested, onward}
 use Rattle.text.specs.Text.{ends, Lines, Content, read_text}
 use Rattle.text.proofs.Outcomes.{refused_accepted, tested_stops}
-use Rattle.drawn.specs.Depth.{Source, gate, depth, deep}
+use Rattle.drawn.specs.Depth.{depth, deep}
 use Rattle.drawn.specs.Drawing.{Drawing, lines, left_source, right_source, gate_order, once, all_defined, drawing_tests, table, reset, renumbered}
 use Rattle.drawn.specs.Meaning.{Shown, shown_by, Behaves, Follows, Looped}
 use Rattle.drawn.specs.Lines.{body_of, drawing, after_tests, read_drawing, read_any}

@@ -1,14 +1,14 @@
 -- What 20, 21 and 22 leave: own literals that differ, literals that are defined, gates that have a depth. Assumes nothing.
 use mathlib.Core.Path.{◌≡◌, sym, ap, ◌∙◌}
-use mathlib.Core.Bool.{true, false, not}
-use Prim.Native.Nat.{ℕ, ◌+◌, ◌*◌, ◌-◌, ◌/◌, ◌%◌, ◌<◌, ◌≤◌}
+use mathlib.Core.Bool.{true, not}
+use Prim.Native.Nat.{ℕ, ◌+◌, ◌*◌, ◌/◌, ◌%◌, ◌<◌, ◌≤◌}
 use native.Mathlib.Omega.{arith}
 use borrow.Author.Tests.{ltb-true, ltb-false, leb-true, eqb-true, eqb-false, not-true, lt-ltb, le-leb, eq-eqb, ne_eqb}
 use lib.Dec.{leb, ltb, eqb}
 use Rattle.three.specs.Lists.{every, first}
 use Rattle.three.proofs.First.{first_finds, first_holds, first_only}
 use Rattle.three.proofs.Lists.{by_test, and_parts, every_at, every_all}
-use Rattle.drawn.specs.Depth.{Source, leaf, gate, deep, loopless}
+use Rattle.drawn.specs.Depth.{leaf, gate, deep, loopless}
 use Rattle.drawn.specs.Drawing.{Drawing, leaves, lines, own, next_literal, single, left, right, gate_of, source, left_source, right_source, once, defined, all_defined, drawing_tests}
 use Rattle.circuit.specs.RulesInCode.{Passed}
 use Rattle.circuit.specs.Table.{literals}

@@ -1,7 +1,7 @@
 -- What is accepted: the first line, then line by line, then 20, 21, 22 and 9. Assumes nothing.
 use mathlib.Core.Path.{◌≡◌, ap, ◌∙◌}
 use mathlib.Core.List.{List, [], ◌∷◌, ◌++◌}
-use Prim.Native.Nat.{ℕ, zero, suc, ◌+◌, ◌≤◌, ◌<◌}
+use Prim.Native.Nat.{ℕ, zero, suc, ◌≤◌, ◌<◌}
 use native.Mathlib.Omega.{arith}
 use borrow.Author.Tests.{le-leb, leb-true}
 use lib.Dec.{leb}
@@ -24,7 +24,10 @@ use Rattle.drawn.specs.Lines.{any_tests, any_header_tests, body_of, drawing, aft
 
 pub any_numbered : (most : ℕ) (k : Kind) (ns : List ℕ) → Numbered (any_tests most k ns)
 unfolding any_tests literal_tests
-any_numbered most k ns = elim k [ input own ↦ omega arith | latch own ↦ omega arith | gate own ↦ omega arith | literal ↦ omega arith ]
+any_numbered most (input own) ns = omega arith
+any_numbered most (latch own) ns = omega arith
+any_numbered most (gate own) ns = omega arith
+any_numbered most literal ns = omega arith
 
 -- ---- a text
 

@@ -11,7 +11,7 @@ use Rattle.circuit.specs.Refusal.{◌or◌, refusal}
 use Rattle.circuit.proofs.Refusals.{stops, past, none}
 use Rattle.drawn.specs.Depth.{Source, gate, loopless}
 use Rattle.drawn.specs.DepthInCode.{Reads, Path, one, more}
-use Rattle.drawn.specs.Drawing.{Drawing, lines, own, left, right, source, left_source, right_source, once, all_defined, drawing_tests}
+use Rattle.drawn.specs.Drawing.{Drawing, lines, left, right, left_source, right_source, once, all_defined, drawing_tests}
 use Rattle.drawn.specs.Meaning.{Uses, Leads, uses, through, Looped}
 use Rattle.drawn.proofs.Loops.{loop_refused, refused_loop}
 use Rattle.drawn.proofs.Proper.{Owned, owned_holds, source_below, source_gate, source_own}

@@ -9,7 +9,7 @@ use native.Mathlib.Decide.{dec_lt}
 use lib.ListN.{length, get_or, length-append, get_or-append}
 use Rattle.three.specs.Lists.{tabulate}
 use Rattle.three.specs.Value.{boolean}
-use Rattle.three.proofs.Lists.{length_tabulate, get_d_tabulate, map_tabulate, tabulate_ext}
+use Rattle.three.proofs.Lists.{length_tabulate, get_or_tabulate, map_tabulate, tabulate_ext}
 use Rattle.circuit.specs.Circuit.{Circuit, Latch, Gate, signed, value, pass, readings, settle, next}
 use Rattle.circuit.specs.Table.{circuit_of, literals, verdicts}
 use Rattle.drawn.specs.Drawing.{Drawing, leaves, lines, own, next_literal, single, left, right, gate_at, line_at, name, rename, table}
@@ -18,7 +18,7 @@ use Rattle.drawn.proofs.Proper.{Defined, Proper}
 use Rattle.drawn.proofs.Naming.{gates_sorted, gate_small, line_leaf, line_gate, Numbered, of_leaf, of_gate, numbered, name_line, name_zero, old, named, left_named, right_named}
 use Rattle.circuit.proofs.Fixed.{Falling, falling, entry_front, pass_at}
 use Rattle.drawn.proofs.Tables.{renamed_singles, drawn_circuit, table_circuit}
-use Rattle.drawn.proofs.Picking.{get_d_behind}
+use Rattle.drawn.proofs.Picking.{get_or_behind}
 
 pub same_shown : {a a' b b' c c' : List Bool} → a ≡ a' → b ≡ b' → c ≡ c' → ◌≡◌ {A = Shown} (record { lamps = a; bads = b; constraints = c }) (record { lamps = a'; bads = b'; constraints = c' })
 same_shown p q r = cc
@@ -53,7 +53,7 @@ module _ (d : Drawing) (p : Proper d) (r s : List Bool) (inputs_long : length r 
   entry_latch : (i : ℕ) → i < d.counts.latches → get_or values (suc (d.counts.inputs + i)) false ≡ get_or s i false
   entry_latch i h =
       entry_front boolean front gate_list (suc (d.counts.inputs + i)) false (omega (arith, front_long))
-      ∙ rw (← inputs_long) (get_d_behind r s i false)
+      ∙ rw (← inputs_long) (get_or_behind r s i false)
 
   entry_gate : (q : ℕ) → q < d.counts.gates
       → get_or values (suc (leaves d + q)) false ≡ (value boolean values (rename d (left d (gate_at d q))) && value boolean values (rename d (right d (gate_at d q))))
@@ -64,7 +64,7 @@ module _ (d : Drawing) (p : Proper d) (r s : List Bool) (inputs_long : length r 
       let long : length gate_list ≡ d.counts.gates = length_tabulate d.counts.gates _ in
       ap (λ (n : ℕ). get_or values n false) (sym place)
       ∙ pass_at boolean front gate_list q g₀ false (rw front_long gates_fall) (rw long h)
-      ∙ ap (λ (g : Gate). value boolean values g.left && value boolean values g.right) (get_d_tabulate d.counts.gates _ q g₀ h)
+      ∙ ap (λ (g : Gate). value boolean values g.left && value boolean values g.right) (get_or_tabulate d.counts.gates _ q g₀ h)
 
   -- a renamed literal reads what the literal reads, if its variable does
   pub renamed : (v : ℕ → Bool) (x : ℕ) → get_or values (name d (x / 2)) false ≡ v (x / 2) → value boolean values (rename d x) ≡ literal v x

@@ -1,19 +1,16 @@
 -- What an accepted text says of its drawing: ceilings, resets, none of 20, 21 and 22; so the table is legal. Assumes nothing.
 use mathlib.Core.Path.{◌≡◌, refl, sym, ap, ◌∙◌}
-use mathlib.Core.Bool.{true}
 use mathlib.Core.List.{List}
-use Prim.Native.Nat.{ℕ, zero, suc, ◌+◌, ◌*◌, ◌≤◌, ◌<◌, suc-le-suc}
+use Prim.Native.Nat.{ℕ, zero, suc, ◌+◌, ◌*◌, ◌≤◌, ◌<◌}
 use native.Mathlib.Nat.{le_of_suc-le-suc, not-suc-le-zero}
 use native.Mathlib.Omega.{arith}
 use borrow.Author.Tests.{leb-true}
-use lib.Dec.{leb}
 use lib.ListN.{get_or}
 use Rattle.circuit.specs.RulesInCode.{Bounded, Legal}
 use Rattle.circuit.specs.declared.Counts.{Counts}
-use Rattle.circuit.specs.Refusal.{Test, ◌or◌}
-use Rattle.circuit.specs.Table.{Kind, input, latch, literal, several, kinds, literal_tests}
-use Rattle.circuit.proofs.Refusals.{none, passed_append}
-use Rattle.text.specs.Outcome.{accepted, refused}
+use Rattle.circuit.specs.Table.{Kind, input, latch, several, kinds, literal_tests}
+use Rattle.circuit.proofs.Refusals.{passed_append}
+use Rattle.text.specs.Outcome.{accepted}
 use Rattle.text.specs.Text.{reset_word, words, Lines, read_lines, counts_of, ending_of}
 use Rattle.text.proofs.Steps.{line_accepted}
 use Rattle.drawn.specs.Drawing.{Drawing, reset, drawing_tests, table}

@@ -1,11 +1,11 @@
 -- The words of the table one by one, the circuit that they make, and that it is legal. Assumes nothing.
-use mathlib.Core.Path.{◌≡◌, ap, ap₂, ◌∙◌}
+use mathlib.Core.Path.{◌≡◌, ap₂, ◌∙◌}
 use mathlib.Core.List.{List, ◌++◌}
-use Prim.Native.Nat.{ℕ, ◌+◌, ◌*◌, ◌-◌, ◌/◌, ◌%◌, ◌<◌, ◌≤◌}
+use Prim.Native.Nat.{ℕ, ◌+◌, ◌*◌, ◌/◌, ◌<◌, ◌≤◌}
 use native.Mathlib.Omega.{arith}
 use lib.ListN.{length, get_or, length-append}
 use Rattle.three.specs.Lists.{tabulate}
-use Rattle.three.proofs.Lists.{length_tabulate, get_d_tabulate, tabulate_ext}
+use Rattle.three.proofs.Lists.{length_tabulate, get_or_tabulate, tabulate_ext}
 use Rattle.circuit.specs.RulesInCode.{Bounded, Legal}
 use Rattle.circuit.specs.Circuit.{Circuit, Latch, Gate}
 use Rattle.circuit.specs.Table.{top, table_length, circuit_of, literals, literals_at, bads_at, constraints_at, gates_at, verdicts}
@@ -54,7 +54,7 @@ module _ (d : Drawing) where
   unfolding table
   table_single i h =
       second_part latch_words single_words gate_words (literals_at d.counts + i) i (omega (arith, latch_words_lem)) (omega (arith, single_words_lem, h))
-      ∙ get_d_tabulate (literals d.counts) _ i 0 h
+      ∙ get_or_tabulate (literals d.counts) _ i 0 h
 
   pub table_left : (i : ℕ) → i < d.counts.gates → get_or (table d) (gates_at d.counts + 2 * i) 0 ≡ rename d (left d (gate_at d i))
   unfolding table

@@ -2,12 +2,12 @@
 use mathlib.Core.Path.{◌≡◌, refl, sym, ap, ap₂, ◌∙◌}
 use mathlib.Core.Bool.{Bool, false, ◌&&◌}
 use mathlib.Core.List.{List, ◌∷◌, ◌++◌, map}
-use Prim.Native.Nat.{ℕ, suc, ◌+◌, ◌*◌, ◌-◌, ◌/◌, ◌<◌}
+use Prim.Native.Nat.{ℕ, suc, ◌+◌, ◌*◌, ◌/◌, ◌<◌}
 use native.Mathlib.Omega.{arith}
 use lib.ListN.{length, get_or, length-append, get_or-append}
 use Rattle.three.specs.Lists.{tabulate}
 use Rattle.three.specs.Value.{boolean}
-use Rattle.three.proofs.Lists.{length_tabulate, get_d_tabulate, map_tabulate, tabulate_ext}
+use Rattle.three.proofs.Lists.{length_tabulate, get_or_tabulate, map_tabulate, tabulate_ext}
 use Rattle.circuit.specs.RulesInCode.{Legal}
 use Rattle.circuit.specs.Circuit.{Circuit, Latch, Gate, value, pass, readings, settle, next}
 use Rattle.circuit.specs.Table.{circuit_of, literals_at, bads_at, constraints_at, verdicts}
@@ -16,7 +16,7 @@ use Rattle.drawn.specs.Meaning.{literal, Solves, next_under, shown_by, singles_u
 use Rattle.drawn.proofs.Proper.{Proper}
 use Rattle.circuit.proofs.Fixed.{Falling, falling, entry_front, pass_at}
 use Rattle.drawn.proofs.Same.{next_same, shown_same, same_shown}
-use Rattle.drawn.proofs.Picking.{get_d_behind}
+use Rattle.drawn.proofs.Picking.{get_or_behind}
 
 module _ (d : Drawing) (p : Proper d) (due : (k : ℕ) → k < lines d → own d k ≡ 2 + 2 * k) (l : Legal d.counts d.words)
     (r s : List Bool) (inputs_long : length r ≡ d.counts.inputs) (latches_long : length s ≡ d.counts.latches) where
@@ -54,14 +54,14 @@ module _ (d : Drawing) (p : Proper d) (due : (k : ℕ) → k < lines d → own d
   entries_solve = record {
     constant = entry_front boolean front gates 0 false (omega (arith, front_long));
     inputs = λ i h. ap (λ (n : ℕ). get_or values n false) (own_half i (omega arith)) ∙ entry_front boolean front gates (suc i) false (omega (arith, front_long)) ∙ get_or-append r s false i (omega (arith, inputs_long));
-    latches = λ i h. ap (λ (n : ℕ). get_or values n false) (own_half (d.counts.inputs + i) (omega arith)) ∙ entry_front boolean front gates (suc (d.counts.inputs + i)) false (omega (arith, front_long)) ∙ rw (← inputs_long) (get_d_behind r s i false);
+    latches = λ i h. ap (λ (n : ℕ). get_or values n false) (own_half (d.counts.inputs + i) (omega arith)) ∙ entry_front boolean front gates (suc (d.counts.inputs + i)) false (omega (arith, front_long)) ∙ rw (← inputs_long) (get_or_behind r s i false);
     gates = λ i h.
         let g₀ : Gate = record { left = 0; right = 0 } in
         let place : length front + i ≡ suc (leaves d + i) = omega (arith, front_long) in
         let long : length gates ≡ d.counts.gates = length_tabulate d.counts.gates _ in
         ap (λ (n : ℕ). get_or values n false) (own_half (leaves d + i) (omega arith) ∙ sym place)
         ∙ pass_at boolean front gates i g₀ false (rw front_long gates_fall) (rw long h)
-        ∙ ap (λ (g : Gate). value boolean values g.left && value boolean values g.right) (get_d_tabulate d.counts.gates _ i g₀ h)
+        ∙ ap (λ (g : Gate). value boolean values g.left && value boolean values g.right) (get_or_tabulate d.counts.gates _ i g₀ h)
         ∙ ap₂ (λ (a b : Bool). a && b) (literal_entry (left d i)) (literal_entry (right d i));
   }
 

@@ -8,7 +8,6 @@ use Rattle.text.specs.Text.{shown_own}
 use Rattle.text.specs.Bench.{bytes, outcome_of}
 use Rattle.drawn.specs.Numbers.{pick, by_key, pairs}
 use Rattle.drawn.specs.Depth.{depth, deep, loopless, order}
-use Rattle.drawn.specs.DepthInCode.{numbered}
 use Rattle.drawn.specs.Drawing.{gate_of, source, gate_order, once, defined, all_defined, drawing_tests, line_at, place, name, renumbered, rename, table}
 use Rattle.drawn.specs.Lines.{any_tests, any_header_tests, after_tests, read_drawing, read_any_ended, read_any}
 

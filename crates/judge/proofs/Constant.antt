@@ -1,10 +1,9 @@
 -- A record whose fields all have one value: the verdict over no cube, and the settled record of an ended chain. Assumes nothing.
 use mathlib.Core.Path.{◌≡◌, refl, sym, ap, ◌∙◌}
-use mathlib.Core.List.{List}
 use Prim.Native.Nat.{ℕ, zero, suc, ◌<◌, ◌≤◌}
 use native.Mathlib.Omega.{arith}
 use lib.ListN.{get_or, replicate, get_or-replicate}
-use Rattle.three.specs.Value.{Three, unknown, code, decode}
+use Rattle.three.specs.Value.{unknown, code, decode}
 use Rattle.three.proofs.Bytes.{code_decode}
 
 beyond : {A : Type 0} (n i : ℕ) (v d : A) → n ≤ i → get_or (replicate n v) i d ≡ d

@@ -1,4 +1,6 @@
 // What judging cubes in a buffer takes: their refusals, what gets a verdict in a cube, the settled record (specification, 5.6 and 5.7).
+#![tactic(auto)]
+
 ghost use Rattle.std.specs.Prelude.{◌≡◌, ◌+◌, ◌*◌, ◌-◌, ◌<◌, ◌≤◌, length, get_or, drop, replicate};
 ghost use Rattle.std.proofs.Math.Seq.{paste};
 ghost use Rattle.three.specs.Lists.{over};

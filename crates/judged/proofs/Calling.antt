@@ -5,7 +5,7 @@ use mathlib.Core.List.{List, ◌++◌}
 use Prim.Native.Nat.{ℕ, ◌+◌, ◌<◌, ◌≤◌}
 use native.Mathlib.Omega.{arith}
 use lib.ListN.{length, take, drop}
-use lib.Seq.{paste, take_at}
+use lib.Seq.{take_at}
 use Rattle.three.specs.Lists.{over}
 use Rattle.three.specs.Cube.{Cube, known_fields}
 use Rattle.three.specs.Record.{bytes_for, pack}

@@ -2,10 +2,10 @@
 use mathlib.Core.Path.{◌≡◌, refl, sym, ap, ap₂, ◌∙◌}
 use mathlib.Core.Bool.{Bool, true, false, ◌&&◌, ◌||◌, false≢true}
 use mathlib.Core.List.{List}
-use Prim.Native.Nat.{ℕ, ◌*◌, ◌<◌, ◌≤◌}
+use Prim.Native.Nat.{ℕ, ◌<◌, ◌≤◌}
 use native.Mathlib.Nat.{zero-mul}
 use borrow.Author.Tests.{lt-leb, le-leb}
-use lib.Dec.{leb, ltb}
+use lib.Dec.{ltb}
 use lib.ListN.{drop, replicate}
 use Rattle.three.specs.Lists.{every, over}
 use Rattle.three.specs.Value.{low, decode}
@@ -17,7 +17,7 @@ use Rattle.three.specs.Cube.{Cube}
 use Rattle.cubes.specs.Run.{blocked, start, merge_from, verdict}
 use Rattle.cubes.specs.Buffer.{cube_bytes, cube_of, cube_in}
 use Rattle.cubes.specs.BufferInCode.{IsCube, Cubes}
-use Rattle.cubes.specs.Given.{same, goesOn, startsChain, is_chain}
+use Rattle.cubes.specs.Given.{same, goes_on, starts_chain, is_chain}
 use Rattle.cubes.proofs.StoredCube.{cube_at_lem}
 use Rattle.cubes.proofs.Buffered.{verdicts_counted}
 use Rattle.judged.specs.JudgedInCode.{and_then, Walked, ChainFound}
@@ -49,26 +49,26 @@ module _ (c : Counts) (words : List ℕ) (n j : ℕ) (cubes : List ℕ) where
         starts
         ∙ ap (λ (v : Cube). ltb 0 n && same v (start circuit)) (ap (λ (m : ℕ). cube_of c.latches (drop m cubes)) (sym (zero-mul (cube_bytes c.latches))) ∙ cube_at_lem c.latches refl cubes 0)
 
-    pub same_start : s ≡ true → true ≡ startsChain circuit given n
-    unfolding startsChain
+    pub same_start : s ≡ true → true ≡ starts_chain circuit given n
+    unfolding starts_chain
     same_start e = ap (λ (b : Bool). b || blocked circuit (start circuit)) (sym e ∙ starts_as)
 
-    pub other_start : s ≡ false → {r : Bool} → r ≡ blocked circuit (start circuit) → r ≡ startsChain circuit given n
-    unfolding startsChain
+    pub other_start : s ≡ false → {r : Bool} → r ≡ blocked circuit (start circuit) → r ≡ starts_chain circuit given n
+    unfolding starts_chain
     other_start e is = is ∙ ap (λ (b : Bool). b || blocked circuit (start circuit)) (sym e ∙ starts_as)
 
   -- ---- the whole test
 
-  module _ (within : j ≤ n) {s : Bool} (starts : s ≡ startsChain circuit given n) where
+  module _ (within : j ≤ n) {s : Bool} (starts : s ≡ starts_chain circuit given n) where
     pub start_found : s ≡ false → (entry : List ℕ) {verdict : List ℕ} → ChainFound c words cubes n j entry false verdict
     unfolding is_chain
-    start_found f = let not_started : startsChain circuit given n ≡ false = sym starts ∙ f in none_found (rw (le-leb j n within, not_started)) refl
+    start_found f = let not_started : starts_chain circuit given n ≡ false = sym starts ∙ f in none_found (rw (le-leb j n within, not_started)) refl
 
     module _ (begun : s ≡ true) where
       pub walked_found : (entry : List ℕ) {r : Bool} {verdict : List ℕ} → Walked c words cubes n j entry r verdict → ChainFound c words cubes n j entry r verdict
       unfolding is_chain
       walked_found entry walked = record {
-        decides = walked.follows ∙ sym (ap₂ (λ (a b : Bool). a && (b && every n (goesOn circuit given n j))) (le-leb j n within) (sym starts ∙ begun));
+        decides = walked.follows ∙ sym (ap₂ (λ (a b : Bool). a && (b && every n (goes_on circuit given n j))) (le-leb j n within) (sym starts ∙ begun));
         judges = walked.judges;
       }
 

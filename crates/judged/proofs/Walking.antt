@@ -9,7 +9,7 @@ use borrow.Author.Tests.{ltb-true}
 use lib.Dec.{ltb}
 use lib.ListN.{length, get_or, drop, replicate}
 use lib.Seq.{paste}
-use Rattle.three.specs.Lists.{every, over}
+use Rattle.three.specs.Lists.{over}
 use Rattle.three.specs.Cube.{Cube, subsumes}
 use Rattle.three.specs.Record.{bytes_for, byte_at, pack}
 use Rattle.three.proofs.Lists.{every_all, every_fails}
@@ -21,7 +21,7 @@ use Rattle.pass.specs.ValuesInCode.{values_of, literal_values}
 use Rattle.cubes.specs.Run.{next_cube, watched_in, blocked, start}
 use Rattle.cubes.specs.Buffer.{cube_bytes, cube_of, cube_in}
 use Rattle.cubes.specs.BufferInCode.{longest_cube, IsCube, Cubes, mark_of}
-use Rattle.cubes.specs.Given.{same, onward, goesTo, goesOn}
+use Rattle.cubes.specs.Given.{same, onward, goes_to, goes_on}
 use Rattle.cubes.proofs.StoredCube.{cube_of_sized, cube_at_lem}
 use Rattle.cubes.proofs.Marks.{no_mark, cube_covers}
 use Rattle.cubes.proofs.Held.{Bytes, padded_byte}
@@ -124,7 +124,7 @@ module _ (c : Counts) (words : List ℕ) (n : ℕ) (cubes : List ℕ) where
 module _ (c : Counts) (words : List ℕ) (n j : ℕ) (cubes : List ℕ) where
   -- the next state of cube number k goes to the cube that comes after
   abbrev pub follows : ℕ → Bool
-  follows = goesOn (circuit_of c words) (cube_in c.latches cubes) n j
+  follows = goes_on (circuit_of c words) (cube_in c.latches cubes) n j
 
   pub walked_part : (entry : List ℕ) {verdict : List ℕ} (k : ℕ) → k < n → {r : Bool} → r ≡ follows k → r ≡ false → Walked c words cubes n j entry false verdict
   walked_part entry k h e f = record { follows = sym (every_fails n follows k h (sym e ∙ f)); judges = λ z. absurd (false≢true z) }
@@ -137,7 +137,7 @@ module _ (c : Counts) (words : List ℕ) (len n j : ℕ) (cubes : List ℕ) wher
     goes m a b = goes_into (circuit_of c words) (ltb m n) a (next_cube (circuit_of c words) b)
 
     pub asked : (k : ℕ) {m : ℕ} {r : Bool} → m ≡ onward n j k → r ≡ goes m (cube_of c.latches (drop (m * len) cubes)) (cube_of c.latches (drop (k * len) cubes)) → r ≡ follows c words n j cubes k
-    unfolding goesOn goesTo goes_into and_then
+    unfolding goes_on goes_to goes_into and_then
     asked k {m} is e =
         e ∙ ap₂ (goes m) (cube_at_lem c.latches given.size cubes m) (cube_at_lem c.latches given.size cubes k)
         ∙ ap (λ (i : ℕ). goes i (cube_in c.latches cubes i) (cube_in c.latches cubes k)) is

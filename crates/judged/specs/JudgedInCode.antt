@@ -9,7 +9,7 @@ use Rattle.circuit.specs.Circuit.{Circuit}
 use Rattle.circuit.specs.Table.{verdicts, circuit_of}
 use Rattle.cubes.specs.Run.{blocked, verdict as verdict_of}
 use Rattle.cubes.specs.Buffer.{cube_in}
-use Rattle.cubes.specs.Given.{goesOn, is_chain}
+use Rattle.cubes.specs.Given.{goes_on, is_chain}
 use Rattle.judge.specs.JudgeInCode.{settled_from}
 
 -- the second is asked only where the first holds
@@ -22,7 +22,7 @@ goes_into c inside a b = and_then inside (subsumes a b) || blocked c b
 
 -- what the walk through the cubes answers, and leaves where each next state goes to the cube that comes after
 pub record Walked (c : Counts) (table cubes : List ℕ) (n j : ℕ) (verdict : List ℕ) (r : Bool) (verdict' : List ℕ) : Type 0 where
-  pub follows : r ≡ every n (goesOn (circuit_of c table) (cube_in c.latches cubes) n j)
+  pub follows : r ≡ every n (goes_on (circuit_of c table) (cube_in c.latches cubes) n j)
   pub judges : r ≡ true → verdict' ≡ over (pack (verdict_of (circuit_of c table) (cube_in c.latches cubes) n)) verdict
 
 -- the same of the whole test

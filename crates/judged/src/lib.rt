@@ -1,4 +1,6 @@
 // The public judge: verdict, settled record and s of a chain, closed or ended (specification, 5.12).
+#![tactic(auto)]
+
 ghost use Rattle.std.specs.Prelude.{◌≡◌, true, ◌+◌, ◌*◌, ◌-◌, ◌<◌, ◌≤◌, ltb, length, drop};
 ghost use Rattle.three.specs.Lists.{over};
 ghost use Rattle.three.specs.Cube.{known_fields};
@@ -8,7 +10,7 @@ ghost use Rattle.circuit.specs.RulesInCode.{Bounded, Legal};
 ghost use Rattle.cubes.specs.Run.{next_cube, watched_in, start as start_of};
 ghost use Rattle.cubes.specs.Buffer.{cube_bytes, cube_of, cube_in};
 ghost use Rattle.cubes.specs.BufferInCode.{longest_cube, IsCube, Cubes};
-ghost use Rattle.cubes.specs.Given.{same, onward as onwardOf, startsChain};
+ghost use Rattle.cubes.specs.Given.{same, onward as onward_of, starts_chain};
 ghost use Rattle.cubes.specs.Judge.{Judged};
 ghost use Rattle.cubes.specs.Promise.{Promises};
 ghost use Rattle.stored.specs.CubesInCode.{raised_bytes, covers_from, SwitchesX};
@@ -45,7 +47,7 @@ fn starts(counts: Counts, table: &[u16], cubes: &[u8], n: usize) -> bool
 // The number that comes after k: the following one, and j after the last.
 fn onward(n: usize, j: usize, k: usize) -> usize
     requires { k < n }
-    ensures { result ≡ onwardOf n j k }
+    ensures { result ≡ onward_of n j k }
 {
     if k + 1 < n {
         return k + 1;
@@ -137,7 +139,7 @@ fn all_go_on(
 // Cube 0 is the resets, or a constraint is 0 in them.
 fn starts_chain(counts: Counts, table: &[u16], cubes: &[u8], n: usize) -> bool
     requires { Legal counts table.now × Cubes counts.latches (cube_bytes counts.latches) n cubes.now }
-    ensures { result ≡ startsChain (circuit_of counts table.now) (cube_in counts.latches cubes.now) n }
+    ensures { result ≡ starts_chain (circuit_of counts table.now) (cube_in counts.latches cubes.now) n }
 {
     if starts(counts, table, cubes, n) {
         return true;

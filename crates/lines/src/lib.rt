@@ -1,4 +1,6 @@
 // Numbers and lines of a text (specification, 4.1 and 4.2).
+#![tactic(auto)]
+
 ghost use Rattle.std.specs.Prelude.{◌≡◌, List, ℕ, ◌≤◌, ◌<◌, length, get_or};
 ghost use Rattle.text.specs.Decimal.{may_grow, read_number};
 ghost use Rattle.text.specs.Text.{reset_word};

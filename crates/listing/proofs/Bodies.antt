@@ -11,7 +11,6 @@ use Rattle.text.specs.Outcome.{Outcome, accepted, refused, onward}
 use Rattle.text.specs.OutcomeInCode.{after}
 use Rattle.text.specs.Text.{Lines, shown_own, read_lines}
 use Rattle.text.specs.KindsInCode.{coded}
-use Rattle.lines.specs.LinesInCode.{from}
 use Rattle.reader.proofs.Bodies.{after_refused, after_none}
 use Rattle.listing.specs.declared.Progress.{Progress}
 use Rattle.listing.specs.ListingInCode.{shown_by, worded, Stand, stand, behind, whole, Listable, Listed, BodyListed}

@@ -6,9 +6,9 @@ use Prim.Native.Nat.{ℕ, zero, suc, ◌≤◌, ◌<◌}
 use native.Mathlib.Omega.{arith}
 use borrow.Author.Tests.{le-leb, lt-leb}
 use lib.Dec.{leb, eqb}
-use lib.ListN.{length, get_or}
+use lib.ListN.{get_or}
 use Rattle.circuit.specs.Refusal.{refusal}
-use Rattle.circuit.specs.Table.{input, latch, literal, gate, literal_tests}
+use Rattle.circuit.specs.Table.{literal_tests}
 use Rattle.circuit.proofs.Refusals.{stops, past, none}
 use Rattle.text.specs.Text.{fits, reset_word, words, shown_own}
 use Rattle.text.specs.KindsInCode.{coded}

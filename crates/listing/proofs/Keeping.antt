@@ -1,6 +1,5 @@
 -- A line is listed: what it gives is put behind what is listed already. Assumes nothing.
 use mathlib.Core.Path.{◌≡◌, refl, sym, ap, ap₂, ◌∙◌}
-use mathlib.Core.Bool.{false}
 use mathlib.Core.List.{List, ◌∷◌, ◌++◌, append_assoc}
 use Prim.Native.Nat.{ℕ, zero, suc, ◌+◌, ◌≤◌}
 use native.Mathlib.Omega.{arith}
@@ -14,8 +13,7 @@ use Rattle.circuit.specs.Table.{Kind}
 use Rattle.text.specs.Part.{got}
 use Rattle.text.specs.Line.{read_line}
 use Rattle.text.specs.Outcome.{Outcome, accepted, refused, onward}
-use Rattle.text.specs.OutcomeInCode.{after}
-use Rattle.text.specs.Text.{fits, words, shown_own, Lines, in_front, read_lines}
+use Rattle.text.specs.Text.{words, shown_own, Lines, in_front, read_lines}
 use Rattle.text.specs.KindsInCode.{coded}
 use Rattle.text.proofs.Spelling.{length_words}
 use Rattle.text.proofs.Steps.{line_ill, line_stops, line_fits}

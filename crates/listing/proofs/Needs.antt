@@ -12,7 +12,6 @@ use Rattle.three.proofs.Lists.{by_test}
 use Rattle.circuit.specs.Refusal.{refusal}
 use Rattle.circuit.specs.Table.{Kind, input, latch, literal, gate}
 use Rattle.circuit.proofs.Refusals.{passes}
-use Rattle.text.specs.Part.{got}
 use Rattle.text.specs.Line.{read_line}
 use Rattle.text.specs.Text.{fits, words, shown_own}
 use Rattle.text.specs.KindsInCode.{coded}
@@ -24,7 +23,7 @@ use Rattle.lines.proofs.Finding.{line_length, line_got}
 use Rattle.reader.specs.ReaderInCode.{WordsFit}
 use Rattle.drawn.specs.Lines.{any_tests}
 use Rattle.drawn.proofs.Reading.{any_numbered, words_small}
-use Rattle.listing.specs.ListingInCode.{shown_by, worded, Stand, behind, Listable}
+use Rattle.listing.specs.ListingInCode.{shown_by, worded, Stand, Listable}
 use Rattle.listing.proofs.Judging.{lamp_shows, other_shows}
 
 -- ---- a list stored behind what is taken
@@ -36,7 +35,10 @@ take_sets l i vs h =
 
 pub length_shown : (k : Kind) (ns : List ℕ) → length (shown_own k ns) ≡ shown_by k
 unfolding shown_own shown_by
-length_shown k ns = elim k [ input own ↦ refl | latch own ↦ refl | gate own ↦ refl | literal ↦ refl ]
+length_shown (input own) ns = refl
+length_shown (latch own) ns = refl
+length_shown (gate own) ns = refl
+length_shown literal ns = refl
 
 pub lamp_shown : {k : ℕ} → k ≡ 2 → shown_by (coded k 0) ≡ 0
 unfolding shown_by
@@ -71,4 +73,7 @@ words_fit {most = most} k ns f z = record {
 
 pub no_numbers : (k : Kind) → fits k 0 ≡ false
 unfolding fits
-no_numbers k = elim k [ input own ↦ refl | latch own ↦ refl | gate own ↦ refl | literal ↦ refl ]
+no_numbers (input own) = refl
+no_numbers (latch own) = refl
+no_numbers (gate own) = refl
+no_numbers literal = refl

@@ -1,18 +1,16 @@
 -- Lines of one kind in turn, and the four kinds one behind the other. Assumes nothing.
 use mathlib.Core.Path.{◌≡◌, refl, sym, ap, ◌∙◌}
 use mathlib.Core.List.{List, ◌∷◌}
-use Prim.Native.Nat.{ℕ, zero, suc, ◌+◌, ◌*◌, ◌≤◌, ◌<◌}
+use Prim.Native.Nat.{ℕ, suc, ◌+◌, ◌*◌, ◌≤◌, ◌<◌}
 use native.Mathlib.Nat.{add-zero, zero-mul, suc-mul, mul-le-mul_right}
 use native.Mathlib.Numerals.{add-one}
 use native.Mathlib.Omega.{arith}
 use lib.ListN.{length}
-use Rattle.circuit.specs.Table.{Kind, several, kinds}
-use Rattle.text.specs.Outcome.{refused}
+use Rattle.circuit.specs.Table.{Kind, several}
 use Rattle.text.specs.OutcomeInCode.{after}
-use Rattle.text.specs.Text.{Lines}
 use Rattle.text.proofs.Tables.{lines_from, lines_first, lines_next, lines_last}
 use Rattle.reader.proofs.Bodies.{after_refused, after_none}
-use Rattle.listing.specs.ListingInCode.{Stand, behind, whole, Listable, Listed}
+use Rattle.listing.specs.ListingInCode.{Stand, whole, Listable, Listed}
 
 -- i times a and one more a are at most n times a
 times_room : (i n a : ℕ) → i < n → i * a + a ≤ n * a

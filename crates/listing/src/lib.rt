@@ -1,4 +1,6 @@
 // The lines of a drawing, read into two lists: own literals, and the other numbers (specification, 4.11).
+#![tactic(auto)]
+
 ghost use Rattle.std.specs.Prelude.{◌≡◌, ℕ, ◌≤◌, ◌<◌, ◌+◌, ◌*◌, length, get_or, ◌∷◌};
 ghost use Rattle.std.proofs.lemmas.List.Edits.{sets};
 ghost use Rattle.circuit.specs.Refusal.{refusal};

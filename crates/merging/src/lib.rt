@@ -1,4 +1,6 @@
 // The public merge of two records (specification, 2.9).
+#![tactic(auto)]
+
 ghost use Rattle.std.specs.Prelude.{◌≡◌, ◌≤◌, length};
 ghost use Rattle.three.specs.Lists.{over};
 ghost use Rattle.three.specs.Cube.{merged as merged_cubes};

@@ -1,6 +1,5 @@
 -- A drawing that 20, 21 and 22 do not refuse is followed, numbered and made into its table. Assumes nothing.
 use mathlib.Core.Path.{◌≡◌, refl, ap, ◌∙◌}
-use mathlib.Core.Bool.{true}
 use mathlib.Core.List.{List}
 use Prim.Native.Nat.{ℕ, suc, ◌+◌, ◌<◌, ◌≤◌}
 use native.Mathlib.Numerals.{add-one}
@@ -13,7 +12,7 @@ use Rattle.three.proofs.Lists.{by_test, tabulate_ext}
 use Rattle.circuit.specs.declared.Counts.{Counts}
 use Rattle.circuit.specs.Table.{variables}
 use Rattle.circuit.proofs.Refusals.{Numbered, passes}
-use Rattle.drawn.specs.Drawing.{Drawing, leaves, lines, place, name, drawing_tests, table, renumbered}
+use Rattle.drawn.specs.Drawing.{Drawing, lines, place, name, drawing_tests, table, renumbered}
 use Rattle.drawn.proofs.Proper.{Proper, proper}
 use Rattle.drawn.proofs.Naming.{gate_small}
 use Rattle.defined.specs.Places.{held, Spoken, DrawingJudged}

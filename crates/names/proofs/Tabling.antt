@@ -7,7 +7,7 @@ use native.Mathlib.Decide.{ℕ_discrete}
 use lib.ListN.{length, get_or, set, length-append}
 use lib.Seq.{paste}
 use Rattle.three.specs.Lists.{tabulate, over}
-use Rattle.three.proofs.Lists.{tabulate_ext, length_tabulate, get_d_tabulate}
+use Rattle.three.proofs.Lists.{tabulate_ext, length_tabulate, get_or_tabulate}
 use Rattle.three.proofs.Loops.{Stored, stored_next, stored_last, over_paste}
 use Rattle.circuit.specs.declared.Counts.{Counts}
 use Rattle.circuit.specs.Table.{table_length, literals, literals_at, gates_at}
@@ -87,7 +87,7 @@ module _ (c : Counts) (words names order : List ℕ) where
   unfolding table_by
   word_lamp k l h =
       let e : literals_at c + (k - literals_at c) ≡ k = omega arith in
-      sym (second_part latch_part literal_part gate_part k (k - literals_at c) (omega (arith, latch_long)) (omega (arith, literal_long)) ∙ get_d_tabulate (literals c) _ (k - literals_at c) 0 (omega arith) ∙ ap (λ (n : ℕ). renamed_by names (get_or words n 0)) e)
+      sym (second_part latch_part literal_part gate_part k (k - literals_at c) (omega (arith, latch_long)) (omega (arith, literal_long)) ∙ get_or_tabulate (literals c) _ (k - literals_at c) 0 (omega arith) ∙ ap (λ (n : ℕ). renamed_by names (get_or words n 0)) e)
 
   pub word_gate : (k i : ℕ) → gates_at c ≤ k → k < table_length c → i ≡ get_or order ((k - (gates_at c)) / 2) 0
       → renamed_by names (get_or words (gates_at c + 2 * i + (k - (gates_at c)) % 2) 0) ≡ get_or (table_by c words names order) k 0

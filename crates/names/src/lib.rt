@@ -1,8 +1,10 @@
 // The new numbers of a drawing, and its table (specification, 4.13).
+#![tactic(auto)]
+
 ghost use Rattle.std.specs.Prelude.{◌≡◌, ℕ, ◌+◌, ◌*◌, ◌<◌, ◌≤◌, length, get_or};
 ghost use Rattle.circuit.specs.Table.{variables, table_length};
 ghost use Rattle.three.specs.Lists.{tabulate, over};
-ghost use Rattle.drawn.specs.Drawing.{Drawing, name, table as table_of, renumbered as renumberedOf};
+ghost use Rattle.drawn.specs.Drawing.{Drawing, name, table as table_of, renumbered as renumbered_of};
 ghost use Rattle.defined.specs.Places.{held, Spoken, DrawingJudged};
 ghost use Rattle.drawn.proofs.Proper.{Proper};
 ghost use Rattle.names.specs.Naming.{line_by, Followed, Of, Numbers, renamed_by};
@@ -107,7 +109,7 @@ pub fn fill_drawing(
     renumbered: &mut [u16],
 )
     requires { DrawingJudged (held most counts owns.now words.now) 0 order.now × Spoken counts words.now × (variables counts ≤ length owns.now) × (most ≤ 4095) × (table_length counts ≤ length table.old) × (most + 1 ≤ length renumbered.old) }
-    ensures { (table.new ≡ over (table_of (held most counts owns.now words.now)) table.old) × (renumbered.new ≡ over (renumberedOf (held most counts owns.now words.now)) renumbered.old) }
+    ensures { (table.new ≡ over (table_of (held most counts owns.now words.now)) table.old) × (renumbered.new ≡ over (renumbered_of (held most counts owns.now words.now)) renumbered.old) }
 {
     let leaves = counts.inputs + counts.latches;
     let mut names = [0u16; 4096];

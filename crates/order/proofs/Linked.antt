@@ -7,15 +7,13 @@ use native.Mathlib.Omega.{arith}
 use borrow.Author.Tests.{leb-true}
 use lib.Dec.{leb}
 use lib.ListN.{get_or}
-use Rattle.three.specs.Lists.{every}
 use Rattle.three.proofs.Lists.{every_at}
-use Rattle.drawn.specs.Numbers.{by_key}
-use Rattle.drawn.specs.Depth.{Source, gate, depth, deep, loopless, order}
+use Rattle.drawn.specs.Depth.{gate, depth, deep, loopless, order}
 use Rattle.drawn.specs.Drawing.{Drawing, left_source, right_source, gate_order, gate_at}
 use Rattle.drawn.proofs.Loops.{depth_gate}
 use Rattle.drawn.proofs.Alike.{by_key_ext, deep_same, loopless_same}
 use Rattle.order.specs.Walk.{operand, Operands, Found}
-use Rattle.order.specs.Sort.{Depths, key, below, Ordered}
+use Rattle.order.specs.Sort.{Depths, key, Ordered}
 use Rattle.order.proofs.Walks.{left_below, right_below}
 
 module _ (left right : List ℕ) (count : ℕ) (given : Operands left right count) where

@@ -9,7 +9,7 @@ use lib.ListN.{length, get_or, set, take, drop, length-set, take-append-drop, dr
 use lib.Seq.{take-suc-set, drop-set-lt, drop-cons, drop-drop, drop-append-add, take_at, length-take-le}
 use Rattle.three.specs.Lists.{tabulate}
 use Rattle.three.specs.Value.{Three, Logic, both, ternary}
-use Rattle.three.proofs.Lists.{length_tabulate, get_d_tabulate, tabulate_append, tabulate_ext}
+use Rattle.three.proofs.Lists.{length_tabulate, get_or_tabulate, tabulate_append, tabulate_ext}
 use Rattle.circuit.specs.Circuit.{Gate, value, pass}
 use Rattle.circuit.specs.RulesInCode.{gates_from}
 use Rattle.pass.specs.ValuesInCode.{values_of, Working, Holding, Gateable, passed}
@@ -32,7 +32,7 @@ module _ (words : List ℕ) (at first count : ℕ) where
   gates_cons : (i : ℕ) → i < count → drop i (gates_from words at count) ≡ record { left = left i; right = right i } ∷ drop (suc i) (gates_from words at count)
   gates_cons i h =
       drop-cons (gates_from words at count) i (record { left = 0; right = 0 }) (rw length_tabulate h)
-      ∙ ap (λ (g : Gate). g ∷ drop (suc i) (gates_from words at count)) (get_d_tabulate count _ i _ h)
+      ∙ ap (λ (g : Gate). g ∷ drop (suc i) (gates_from words at count)) (get_or_tabulate count _ i _ h)
 
   gates_end : (i : ℕ) → count ≤ i → drop i (gates_from words at count) ≡ []
   gates_end i h = drop_of_length-le (gates_from words at count) {i = i} (rw length_tabulate h)
@@ -74,7 +74,7 @@ module _ (words : List ℕ) (at first count : ℕ) where
 pass_append : {A : Type 0} (logic : Logic A) (vs : List A) (gs hs : List Gate) → pass logic vs (gs ++ hs) ≡ pass logic (pass logic vs gs) hs
 unfolding pass
 pass_append logic vs [] hs = refl
-pass_append logic vs (g ∷ gs) hs = pass_append logic _ gs hs
+pass_append logic vs (g ∷ gs) hs = pass_append logic (vs ++ logic.and (value logic vs g.left) (value logic vs g.right) ∷ []) gs hs
 
 module _ (words : List ℕ) (at first : ℕ) where
   pub passed_none : (vs : List Three) → vs ≡ passed words at first 0 vs

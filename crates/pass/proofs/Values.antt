@@ -11,7 +11,7 @@ use Rattle.three.specs.RecordInCode.{IsRecord}
 use Rattle.three.specs.Lists.{tabulate}
 use Rattle.three.specs.Value.{Three, unknown, low, code, decode, ternary}
 use Rattle.three.proofs.Loops.{Stored, stored_next}
-use Rattle.three.proofs.Lists.{by_test, length_tabulate, get_d_tabulate, get_d_beyond, tabulate_ext}
+use Rattle.three.proofs.Lists.{by_test, length_tabulate, get_or_tabulate, get_or_beyond, tabulate_ext}
 use Rattle.three.proofs.Table.{entry_of_row}
 use Rattle.three.proofs.Bytes.{code_small, code_decode, decode_code}
 use Rattle.three.proofs.Pack.{length_unpack, pair_put, pair_kept, unpack_put}
@@ -23,7 +23,7 @@ use Rattle.pass.specs.ValuesInCode.{values_of, fresh_values, Working, Holding, B
 
 pub variable_value : (table : List ℕ) (v : ℕ) → v < 4096 → Working table → pair_at table v ≡ code (get_or (values_of table) v low)
 unfolding values_of unpack
-variable_value table v h w = sym (code_decode _ (w.codes v)) ∙ ap code (sym (get_d_tabulate (4 * length table) _ v low (omega (arith, w.long))))
+variable_value table v h w = sym (code_decode _ (w.codes v)) ∙ ap code (sym (get_or_tabulate (4 * length table) _ v low (omega (arith, w.long))))
 
 pub put_holds : (table : List ℕ) (v x byte : ℕ) → v < 4096 → x < 3 → Working table → pairs byte ≡ set (pairs (get_or table (v / 4) 0)) (v % 4) x
     → Holding (set table (v / 4) byte) (set (values_of table) v (decode x))
@@ -112,7 +112,7 @@ pub load_next : (bytes : List ℕ) (first count : ℕ) (table₀ : List ℕ) →
 unfolding unpack
 load_next bytes first count table₀ room w vs i x s h e =
     stored_next _ _ _ _ (omega (arith, length_values table₀, w.long)) (omega (arith, length_unpack count bytes)) vs i (decode x) unknown s h
-    (ap decode e ∙ sym (get_d_tabulate count _ i unknown h))
+    (ap decode e ∙ sym (get_or_tabulate count _ i unknown h))
 
 -- ---- literals' values, stored as a record
 
@@ -123,8 +123,8 @@ module _ (values : List Three) (words : List ℕ) (at step count : ℕ) where
 
   pub literal_within : (i : ℕ) → i < count → value ternary values (get_or words (at + step * i) 0) ≡ get_or (literal_values values words at step count) i unknown
   unfolding literal_values
-  literal_within i h = sym (get_d_tabulate count _ i unknown h)
+  literal_within i h = sym (get_or_tabulate count _ i unknown h)
 
   pub literal_beyond : (i : ℕ) → count ≤ i → 0 ≡ code (get_or (literal_values values words at step count) i unknown)
   unfolding literal_values code
-  literal_beyond i h = ap code (sym (get_d_beyond count _ i unknown h))
+  literal_beyond i h = ap code (sym (get_or_beyond count _ i unknown h))

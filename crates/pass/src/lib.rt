@@ -1,4 +1,6 @@
 // One pass over the gates, through a working table of values (specification, 3.3).
+#![tactic(auto)]
+
 ghost use Rattle.std.specs.Prelude.{◌≡◌, ◌++◌, ◌+◌, ◌*◌, ◌<◌, ◌≤◌, length, get_or, set, take};
 ghost use Rattle.std.proofs.Math.Seq.{paste};
 ghost use Rattle.three.specs.Lists.{every, over};
@@ -6,7 +8,7 @@ ghost use Rattle.three.specs.Value.{unknown, low, code, decode, both, ternary};
 ghost use Rattle.three.specs.RecordInCode.{gate_table};
 ghost use Rattle.three.specs.Record.{bytes_for, byte_at, pack, unpack};
 ghost use Rattle.three.specs.RecordInCode.{IsRecord};
-ghost use Rattle.circuit.specs.Circuit.{value, pass, settle as settleValues};
+ghost use Rattle.circuit.specs.Circuit.{value, pass, settle as settle_values};
 ghost use Rattle.circuit.specs.Table.{circuit_of};
 ghost use Rattle.circuit.specs.RulesInCode.{Legal};
 ghost use Rattle.pass.specs.ValuesInCode.{values_of, fresh_values, Working, Holding, Begins, sign_table, Gateable, Readable, literal_values, passed};
@@ -142,7 +144,7 @@ pub fn settle_state(counts: Counts, table: &[u16], state: &[u8], values: &mut Va
 // One pass: the constant, the switches, the state, and then each gate in order.
 pub fn settle(counts: Counts, table: &[u16], state: &[u8], switches: &[u8], values: &mut Values)
     requires { Legal counts table.now × IsRecord counts.latches state.now × IsRecord counts.inputs switches.now × Working values.old }
-    ensures { Begins values.new (settleValues ternary (circuit_of counts table.now) (unpack counts.inputs switches.now) (unpack counts.latches state.now)) }
+    ensures { Begins values.new (settle_values ternary (circuit_of counts table.now) (unpack counts.inputs switches.now) (unpack counts.latches state.now)) }
 {
     put_variable(values, 0, 1);
     load(switches, 1, counts.inputs, values);

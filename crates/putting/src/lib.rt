@@ -1,4 +1,6 @@
 // Bytes and numbers put into a buffer (specification, 4.1 and 4.2). Every `put` answers the position behind the bytes that it writes.
+#![tactic(auto)]
+
 ghost use Rattle.std.specs.Prelude.{◌≡◌, ◌≤◌, ◌<◌, ◌+◌, length, [], ◌∷◌, ◌++◌};
 ghost use Rattle.text.specs.Decimal.{decimal};
 ghost use Rattle.putting.specs.PutInCode.{Put};

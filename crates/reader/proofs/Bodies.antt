@@ -2,7 +2,7 @@
 use mathlib.Core.Path.{◌≡◌, refl, sym, ◌∙◌, ap}
 use mathlib.Core.Bool.{false, true, not}
 use mathlib.Core.List.{List, ◌∷◌}
-use Prim.Native.Nat.{ℕ, zero, suc, ◌+◌, ◌*◌, ◌-◌, ◌≤◌, ◌<◌}
+use Prim.Native.Nat.{ℕ, zero, suc, ◌+◌, ◌*◌, ◌≤◌, ◌<◌}
 use native.Mathlib.Omega.{arith}
 use borrow.Author.Tests.{ltb-true, ltb-false, eqb-true, eqb-false, ne_eqb}
 use lib.Dec.{ltb, eqb}
@@ -60,7 +60,10 @@ after_none o e = rw e
 
 no_numbers : (k : Kind) → fits k 0 ≡ false
 unfolding fits
-no_numbers k = elim k [ input own ↦ refl | latch own ↦ refl | gate own ↦ refl | literal ↦ refl ]
+no_numbers (input own) = refl
+no_numbers (latch own) = refl
+no_numbers (gate own) = refl
+no_numbers literal = refl
 
 pub line_judged : (ending text : List ℕ) (at most : ℕ) (k : Kind) (l : ReadLine) (n : ℕ) → LineFound text (read_line ending (from text at)) l → n ≡ refusal (line_tests most k (numbers_of l))
     → LinesJudged (read_lines ending (line_tests most)) text at (λ ks. k ∷ ks) (record { number = n; next = l.next })

@@ -1,11 +1,13 @@
 // The reader of a circuit's text (specification, 4.9).
+#![tactic(auto)]
+
 ghost use Rattle.std.specs.Prelude.{◌≡◌, ℕ, ◌≤◌, ◌<◌, ◌+◌, ◌*◌, length, [], ◌∷◌};
 ghost use Rattle.std.proofs.lemmas.List.Edits.{sets};
 ghost use Rattle.three.specs.Lists.{over};
 ghost use Rattle.circuit.specs.Refusal.{refusal};
 ghost use Rattle.circuit.specs.Table.{top, input, latch, literal, gate, several, kinds};
 ghost use Rattle.circuit.specs.RulesInCode.{Bounded};
-ghost use Rattle.text.specs.Text.{magic as plainMagic, words, line_tests, ends, first_line, header as plainHeader, counts_of, count_tests, header_tests, read_lines, circuit_lines, ending_of};
+ghost use Rattle.text.specs.Text.{magic as plain_magic, words, line_tests, ends, first_line, header as plain_header, counts_of, count_tests, header_tests, read_lines, circuit_lines, ending_of};
 ghost use Rattle.text.specs.Calls.{zeros, Reading};
 ghost use Rattle.lines.specs.LinesInCode.{from, ending_bytes, Shape, numbers_of, LineFound};
 ghost use Rattle.reader.specs.ReaderInCode.{opened, LinesJudged, kinds_then, TextJudged, WordsFit, body_words, stand, Fillable, KindFillable, KindFilled};
@@ -45,7 +47,7 @@ pub fn first_line(text: &[u8], magic: &[u8; 4], ending: Ending) -> ReadLine
 }
 
 pub fn header(text: &[u8], ending: Ending) -> ReadLine
-    ensures { LineFound text.now (plainHeader (ending_bytes ending) text.now) result }
+    ensures { LineFound text.now (plain_header (ending_bytes ending) text.now) result }
 {
     let magic = MAGIC;
     first_line(text, &magic, ending)
@@ -306,8 +308,8 @@ pub enum Judgement {
 
 // Reader: 1, 2, 3, then line by line (4, 5, 6, then 7 or 8), 9: once over the text, and nothing is written.
 pub fn judge(text: &[u8], ending: Ending, first: ReadLine) -> Judgement
-    requires { LineFound text.now (plainHeader (ending_bytes ending) text.now) first }
-    ensures { TextJudged plainMagic (ending_bytes ending) (circuit_lines (ending_bytes ending)) text.now result }
+    requires { LineFound text.now (plain_header (ending_bytes ending) text.now) first }
+    ensures { TextJudged plain_magic (ending_bytes ending) (circuit_lines (ending_bytes ending)) text.now result }
 {
     if text.len() > MOST_TEXT {
         return Judgement::Refused(1);
@@ -428,7 +430,7 @@ pub fn refused(number: u32) -> ReadAnswer
 
 // The text is judged as a whole before a word is stored; every line has the first one's ending.
 fn read_ended(text: &[u8], ending: Ending, first: ReadLine, table: &mut [u16]) -> ReadAnswer
-    requires { LineFound text.now (plainHeader (ending_bytes ending) text.now) first × (ending_of text.now ≡ ending_bytes ending) }
+    requires { LineFound text.now (plain_header (ending_bytes ending) text.now) first × (ending_of text.now ≡ ending_bytes ending) }
     ensures { Reading text.now table.old result.number result.counts table.new }
 {
     let judgement = judge(text, ending, first);

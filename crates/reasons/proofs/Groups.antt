@@ -12,7 +12,7 @@ use Rattle.three.specs.Lists.{every, over}
 use Rattle.three.specs.Value.{Three, unknown, code}
 use Rattle.three.specs.Cube.{Cube, alike, subsumes}
 use Rattle.three.specs.Record.{bytes_for, pack, pair_at}
-use Rattle.three.proofs.Lists.{iff, and_parts, every_at, every_all, tabulate_ext, tabulate_get_d}
+use Rattle.three.proofs.Lists.{iff, and_parts, every_at, every_all, tabulate_ext, tabulate_get_or}
 use Rattle.three.proofs.Fields.{alike_same}
 use Rattle.three.proofs.Merge.{subsumes_self}
 use Rattle.three.proofs.Subsuming.{subsumes_both}
@@ -46,9 +46,9 @@ same_pairs f a b d e la lb = iff _ (same a b)
   where
     equal : every f (λ i. eqb (pair_at (over (pack a) d) i) (pair_at (over (pack b) e) i)) ≡ true → a ≡ b
     equal h =
-        sym (tabulate_get_d a unknown)
+        sym (tabulate_get_or a unknown)
         ∙ tabulate_ext (length a) _ _ (λ i l. alike_same _ _ (eq-eqb _ _ (sym (stored_pair f a d la i (omega arith)) ∙ eqb-true _ _ (every_at f _ h i (omega arith)) ∙ stored_pair f b e lb i (omega arith))))
-        ∙ rw (la ∙ sym lb) (tabulate_get_d b unknown)
+        ∙ rw (la ∙ sym lb) (tabulate_get_or b unknown)
 
 -- ---- the group that goes from cube `from` to cube k at least
 

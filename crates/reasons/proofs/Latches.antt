@@ -9,7 +9,7 @@ use lib.ListN.{length, drop, drop_of_length-le}
 use lib.Seq.{drop-cons}
 use Rattle.three.specs.Value.{unknown, decode}
 use Rattle.three.specs.Record.{pair_at, unpack}
-use Rattle.three.proofs.Lists.{get_d_tabulate}
+use Rattle.three.proofs.Lists.{get_or_tabulate}
 use Rattle.three.proofs.Pack.{length_unpack}
 use Rattle.putting.specs.PutInCode.{Put}
 use Rattle.putting.proofs.Putting.{put_then}
@@ -34,7 +34,7 @@ module _ (bytes₀ : List ℕ) (count : ℕ) (d : List ℕ) (start : ℕ) where
   left_more : (begun : Bool) (i : ℕ) → i < count → left begun i ≡ forced begun i (decode (pair_at bytes₀ i)) ++ left (begun || is_known (decode (pair_at bytes₀ i))) (i + 1)
   unfolding latches unpack
   left_more begun i h =
-      rw (add-one, drop-cons (unpack count bytes₀) i unknown (omega (arith, length_unpack count bytes₀)), get_d_tabulate count (λ j. decode (pair_at bytes₀ j)) i unknown h)
+      rw (add-one, drop-cons (unpack count bytes₀) i unknown (omega (arith, length_unpack count bytes₀)), get_or_tabulate count (λ j. decode (pair_at bytes₀ j)) i unknown h)
 
   pub latches_next : {e f : List ℕ} {end q i field : ℕ} {begun begun' : Bool} → LatchesLeft e end begun i → i < count → field ≡ pair_at bytes₀ i
       → Put e end (forced begun i (decode field)) f q × (q ≤ end + 32) → begun' ≡ (begun || is_known (decode field)) → LatchesLeft f q begun' (i + 1)

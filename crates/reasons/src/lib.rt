@@ -1,4 +1,6 @@
 // The lines of an explanation, put into a buffer (specification, 6).
+#![tactic(auto)]
+
 ghost use Rattle.std.specs.Prelude.{◌≡◌, false, ◌||◌, ◌+◌, ◌*◌, ◌≤◌, eqb, length};
 ghost use Rattle.three.specs.Lists.{every};
 ghost use Rattle.three.specs.Value.{decode};

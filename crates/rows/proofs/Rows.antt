@@ -10,7 +10,7 @@ use lib.Seq.{drop-cons, get_or-drop}
 use Rattle.three.specs.Value.{Three, unknown, low, high, decode}
 use Rattle.three.specs.Cube.{Cube}
 use Rattle.three.specs.Record.{pair_at, unpack}
-use Rattle.three.proofs.Lists.{get_d_tabulate}
+use Rattle.three.proofs.Lists.{get_or_tabulate}
 use Rattle.three.proofs.Pack.{length_unpack}
 use Rattle.putting.specs.PutInCode.{Put}
 use Rattle.text.specs.Bench.{bytes}
@@ -77,7 +77,7 @@ module _ (k : Row) (bytes₀ : List ℕ) (first count : ℕ) (d : List ℕ) (sta
   left_more : (i : ℕ) → i < count → left i ≡ row k i (decode (pair_at bytes₀ (first + i))) ++ left (i + 1)
   unfolding rows unpack
   left_more i h =
-      rw (add-one, drop-cons told i unknown (omega (arith, told_sized)), get_or-drop, get_d_tabulate (first + count) (λ j. decode (pair_at bytes₀ j)) (first + i) unknown (omega arith))
+      rw (add-one, drop-cons told i unknown (omega (arith, told_sized)), get_or-drop, get_or_tabulate (first + count) (λ j. decode (pair_at bytes₀ j)) (first + i) unknown (omega arith))
 
   pub rows_next : {e f : List ℕ} {end q i field : ℕ} → RowsLeft e end i → i < count → field ≡ pair_at bytes₀ (first + i)
       → Put e end (row k i (decode field)) f q × (q ≤ end + 34) → RowsLeft f q (i + 1)

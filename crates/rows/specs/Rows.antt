@@ -1,5 +1,5 @@
 -- The rows of a report (specification, 6): a line for each lamp, each bad state and each latch. In a quoted text `/` stands for byte 10. Assumes nothing.
-use Rattle.std.specs.Prelude.{List, [], ◌∷◌, ◌++◌, ℕ, suc, ◌/◌}
+use Rattle.std.specs.Prelude.{List, [], ◌∷◌, ◌++◌, ℕ, suc}
 use Rattle.three.specs.Value.{Three, unknown, low, high}
 use Rattle.three.specs.Cube.{Cube}
 use Rattle.text.specs.Decimal.{decimal}

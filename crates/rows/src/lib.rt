@@ -1,10 +1,12 @@
 // The rows of a report, put into a buffer (specification, 6).
+#![tactic(auto)]
+
 ghost use Rattle.std.specs.Prelude.{◌+◌, ◌*◌, ◌≤◌, ◌<◌, ◌++◌, length, drop};
 ghost use Rattle.three.specs.Value.{decode};
 ghost use Rattle.three.specs.Record.{unpack};
 ghost use Rattle.putting.specs.PutInCode.{Put};
 ghost use Rattle.rows.specs.declared.Row.{Row};
-ghost use Rattle.rows.specs.Rows.{item, said, verdict_said, row as rowText, rows};
+ghost use Rattle.rows.specs.Rows.{item, said, verdict_said, row as row_text, rows};
 ghost use Rattle.text.specs.Decimal.{decimal};
 
 // What a line of the report is about.
@@ -73,7 +75,7 @@ fn put_verdict(out: &mut [u8], at: usize, name: &[u8], i: usize, field: u8) -> u
 // the line of number i.
 pub fn put_row(out: &mut [u8], at: usize, row: Row, i: usize, field: u8) -> usize
     requires { at + 34 ≤ length out.old }
-    ensures { Put out.old at (rowText row i (decode field)) out.new result × (result ≤ at + 34) }
+    ensures { Put out.old at (row_text row i (decode field)) out.new result × (result ≤ at + 34) }
 {
     match row {
         Row::Lamp => put_verdict(out, at, b"lamp ", i, field),

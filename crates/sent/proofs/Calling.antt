@@ -17,7 +17,7 @@ use Rattle.circuit.specs.Table.{ceiling_tests, word_tests, board_tests, verdicts
 use Rattle.circuit.proofs.Refusals.{refused_old, accepted_new}
 use Rattle.cubes.specs.Run.{start}
 use Rattle.cubes.specs.Buffer.{cube_in}
-use Rattle.cubes.specs.Given.{cubeTests, covered, nextCovered, firstUncovered}
+use Rattle.cubes.specs.Given.{cube_tests, covered, next_covered, first_uncovered}
 use Rattle.cubes.proofs.Buffered.{verdict_sized}
 use Rattle.cubes.proofs.Covering.{uncovered_none, uncovered_fails, uncovered_passes}
 use Rattle.sent.specs.Call.{SentGiven, circuit_in, cubes_in, sent_tests, verdict_fields, Sent}
@@ -38,10 +38,10 @@ refusal_under m (t ∷ ts) pos u = by_test t.holds (λ e. rw (refusal, e) (refus
 
 module _ (g : SentGiven) where
   abbrev uncovered : ℕ
-  uncovered = firstUncovered (circuit_in g) (cubes_in g) g.n
+  uncovered = first_uncovered (circuit_in g) (cubes_in g) g.n
 
   given_under : refusal (given_tests g.counts g.table g.cubes g.n) < 17
-  unfolding board_tests ceiling_tests lamp_tests word_tests cubeTests
+  unfolding board_tests ceiling_tests lamp_tests word_tests cube_tests
   given_under = refusal_under 17 (given_tests g.counts g.table g.cubes g.n) (omega arith) (omega arith)
 
   -- ---- refusals
@@ -79,7 +79,7 @@ module _ (g : SentGiven) where
           next_refused h = refused (next_outside g passed starts (uncovered_fails _ _ g.n (rw cube_is at h))) (λ z. omega arith) cube_is
 
           module _ (all : g.n ≤ cube) where
-            follows : every g.n (nextCovered (circuit_in g) (cubes_in g) g.n) ≡ true
+            follows : every g.n (next_covered (circuit_in g) (cubes_in g) g.n) ≡ true
             follows = uncovered_passes _ _ g.n (rw cube_is at all)
 
             pub verdict_refused : length g.verdict < bytes_for (verdicts g.counts) → Sent g (record { number = 10; cube = 0 }) g.verdict
@@ -89,7 +89,7 @@ module _ (g : SentGiven) where
             -- ---- accepted
 
             whole : cube ≡ g.n
-            whole = cube_is ∙ sym (uncovered_none _ _ g.n (every_at g.n (nextCovered (circuit_in g) (cubes_in g) g.n) follows))
+            whole = cube_is ∙ sym (uncovered_none _ _ g.n (every_at g.n (next_covered (circuit_in g) (cubes_in g) g.n) follows))
 
             pub seen_are : seen' ≡ over (pack (verdict_fields g)) seen
             unfolding verdict_fields circuit_in cubes_in

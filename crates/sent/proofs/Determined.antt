@@ -3,7 +3,6 @@ use mathlib.Core.Path.{◌≡◌, sym, ◌∙◌}
 use mathlib.Core.List.{List, ◌∷◌}
 use Prim.Native.Nat.{ℕ}
 use borrow.Author.Tests.{ne_eqb}
-use lib.Dec.{eqb}
 use Rattle.circuit.proofs.Refusals.{refused_old}
 use Rattle.sent.specs.declared.CoverAnswer.{CoverAnswer}
 use Rattle.sent.specs.Call.{SentGiven, Sent}

@@ -13,7 +13,7 @@ use Rattle.circuit.specs.Refusal.{refusal}
 use Rattle.circuit.specs.Table.{verdicts}
 use Rattle.cubes.specs.Run.{blocked, start, verdict}
 use Rattle.cubes.specs.Execution.{Execution, Lawful}
-use Rattle.cubes.specs.Given.{covered, nextCovered}
+use Rattle.cubes.specs.Given.{covered, next_covered}
 use Rattle.cubes.specs.GivenInCode.{given_tests}
 use Rattle.cubes.proofs.Buffered.{verdicts_counted}
 use Rattle.cubes.proofs.Covering.{covered_none}
@@ -27,7 +27,7 @@ module _ (g : SentGiven) (none : g.n ≡ 0) where
   start_decided : covered (circuit_in g) (cubes_in g) g.n (start (circuit_in g)) ≡ blocked (circuit_in g) (start (circuit_in g))
   start_decided = covered_none _ _ _ _ none
 
-  nothing_follows : every g.n (nextCovered (circuit_in g) (cubes_in g) g.n) ≡ true
+  nothing_follows : every g.n (next_covered (circuit_in g) (cubes_in g) g.n) ≡ true
   nothing_follows = every_all g.n _ (λ k h. absurd (omega arith))
 
   -- given a circuit that is run and a buffer for the verdict

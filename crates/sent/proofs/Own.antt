@@ -10,7 +10,7 @@ use Rattle.circuit.specs.RulesInCode.{Passed}
 use Rattle.cubes.specs.declared.ChainAnswer.{ChainAnswer}
 use Rattle.cubes.specs.declared.JudgeAnswer.{JudgeAnswer}
 use Rattle.cubes.specs.Chain.{ChainGiven, Chained, room_in, outcome_in, circuit_in as board_in}
-use Rattle.cubes.specs.Given.{coverTests}
+use Rattle.cubes.specs.Given.{cover_tests}
 use Rattle.cubes.specs.Judge.{Judged, verdict_fields as judged_fields, circuit_in as judged_in, cubes_in as judged_cubes}
 use Rattle.cubes.proofs.Cover.{cover_same}
 use Rattle.cubes.proofs.Covering.{test_cover, cover_test, run_passes}
@@ -28,7 +28,7 @@ module _ (g : ChainGiven) (r : ChainAnswer) (cubes : List ℕ) (chained : Chaine
   sends lent = record { counts = g.counts; table = g.table; cubes = cubes; n = r.cubes; verdict = lent }
 
   module _ (lent : List ℕ) (fits : bytes_for (verdicts g.counts) ≤ length lent) where
-    all_covered : Passed (coverTests (circuit_in (sends lent)) (cubes_in (sends lent)) r.cubes)
+    all_covered : Passed (cover_tests (circuit_in (sends lent)) (cubes_in (sends lent)) r.cubes)
     unfolding circuit_in cubes_in board_in outcome_in
     all_covered =
         cover_test _ _ r.cubes
@@ -36,7 +36,7 @@ module _ (g : ChainGiven) (r : ChainAnswer) (cubes : List ℕ) (chained : Chaine
         (test_cover _ _ r.cubes (run_passes (board_in g) g.w (room_in g.counts g.cubes) r.cubes r.back (outcome_is g r cubes chained closed))))
 
     pub own_accepted : 0 ≡ refusal (sent_tests (sends lent))
-    unfolding board_in coverTests
+    unfolding board_in cover_tests
     own_accepted =
         sent_passes (sends lent) (own_given g r cubes chained closed g.counts g.table (own_board g r cubes chained closed) (relit_self (board_in g))) all_covered.0 all_covered.1.0 fits
 

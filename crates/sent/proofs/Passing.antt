@@ -16,7 +16,7 @@ use Rattle.circuit.specs.Circuit.{Circuit}
 use Rattle.circuit.specs.Table.{verdicts, circuit_of}
 use Rattle.cubes.specs.Run.{next_cube, watched_in, verdict as verdict_of}
 use Rattle.cubes.specs.Buffer.{cube_of, cube_in}
-use Rattle.cubes.specs.Given.{covered, nextCovered}
+use Rattle.cubes.specs.Given.{covered, next_covered}
 use Rattle.cubes.proofs.StoredCube.{cube_at_lem}
 use Rattle.cubes.proofs.Merging.{length_over}
 use Rattle.cubes.proofs.Buffered.{verdicts_counted}
@@ -47,7 +47,7 @@ module _ (c : Counts) (words : List ℕ) (len n : ℕ) (cubes : List ℕ) where
 
   -- the next state of cube number k is covered
   abbrev pub covered_at : ℕ → Bool
-  covered_at k = nextCovered circuit (cube_in c.latches cubes) n k
+  covered_at k = next_covered circuit (cube_in c.latches cubes) n k
 
   pub judgeable : Sendable c words len n cubes → 1 ≤ n → Judgeable c words len n cubes
   judgeable s some = record { legal = s.legal; size = s.stand.size; some = some; fits = s.stand.fits; cube = s.stand.cube }
@@ -55,7 +55,7 @@ module _ (c : Counts) (words : List ℕ) (len n : ℕ) (cubes : List ℕ) where
   module _ (j : Judgeable c words len n cubes) where
     -- as the code asks it, at the byte where the cube stands
     pub asked : (k : ℕ) {r : Bool} → r ≡ covered circuit (cube_in c.latches cubes) n (next_cube circuit (cube_of c.latches (drop (k * len) cubes))) → r ≡ covered_at k
-    unfolding nextCovered
+    unfolding next_covered
     asked k e = e ∙ ap (λ v. covered circuit (cube_in c.latches cubes) n (next_cube circuit v)) (cube_at_lem c.latches j.size cubes k)
 
     pub asked_first : {r : Bool} → r ≡ covered circuit (cube_in c.latches cubes) n (next_cube circuit (cube_of c.latches cubes)) → r ≡ covered_at 0

@@ -5,7 +5,7 @@ use Prim.Native.Nat.{ℕ}
 use Rattle.circuit.specs.Refusal.{Test, refusal}
 use Rattle.circuit.specs.Table.{board_tests}
 use Rattle.cubes.specs.Buffer.{Remarked}
-use Rattle.cubes.specs.Given.{firstUncovered}
+use Rattle.cubes.specs.Given.{first_uncovered}
 use Rattle.cubes.proofs.Buffered.{verdict_same}
 use Rattle.cubes.proofs.Unmarked.{cube_tests_unmarked, cover_tests_same, uncovered_same}
 use Rattle.sent.specs.declared.CoverAnswer.{CoverAnswer}
@@ -20,7 +20,7 @@ module _ (g : SentGiven) (other : List ℕ) (alike : Remarked g.counts.latches g
   tests_unmarked =
       ap₂ (λ (ts us : List Test). board_tests g.counts g.table ++ (ts ++ (us ++ verdict_tests g))) (cube_tests_unmarked g.counts alike) (cover_tests_same _ _ _ g.n alike.same)
 
-  uncovered_unmarked : firstUncovered (circuit_in g) (cubes_in g) g.n ≡ firstUncovered (circuit_in remarked) (cubes_in remarked) g.n
+  uncovered_unmarked : first_uncovered (circuit_in g) (cubes_in g) g.n ≡ first_uncovered (circuit_in remarked) (cubes_in remarked) g.n
   unfolding circuit_in cubes_in
   uncovered_unmarked = uncovered_same _ _ _ g.n alike.same
 

@@ -9,7 +9,7 @@ use Rattle.circuit.specs.Refusal.{Test, ◌or◌, refusal, left_by}
 use Rattle.circuit.specs.Table.{verdicts, circuit_of, board_tests}
 use Rattle.cubes.specs.Run.{verdict as verdict_of}
 use Rattle.cubes.specs.Buffer.{cube_in}
-use Rattle.cubes.specs.Given.{cubeTests, coverTests, firstUncovered}
+use Rattle.cubes.specs.Given.{cube_tests, cover_tests, first_uncovered}
 use Rattle.sent.specs.declared.CoverAnswer.{CoverAnswer}
 
 -- What the call is given: counts, table, the buffer of cubes and how many they are, and the verdict's buffer as it is lent
@@ -34,7 +34,7 @@ module _ (g : SentGiven) where
 
   -- 3, 16, 10 for the table, 11, 10 for the cubes, 14, 17, 18, 10 for the verdict
   unfoldable pub sent_tests : List Test
-  sent_tests = board_tests g.counts g.table ++ (cubeTests g.counts g.cubes g.n ++ (coverTests circuit_in cubes_in g.n ++ verdict_tests))
+  sent_tests = board_tests g.counts g.table ++ (cube_tests g.counts g.cubes g.n ++ (cover_tests circuit_in cubes_in g.n ++ verdict_tests))
 
   -- the verdict by the run's rule, over all n cubes
   unfoldable pub verdict_fields : Cube
@@ -43,5 +43,5 @@ module _ (g : SentGiven) where
 -- The contract: the number, the cube that 18 names and 0 with any other number, and every byte of the verdict's buffer at exit, which a refusal leaves as it was
 pub record Sent (g : SentGiven) (r : CoverAnswer) (verdict : List ℕ) : Type 0 where
   pub answers : r.number ≡ refusal (sent_tests g)
-  pub names : r.cube ≡ cond (eqb r.number 18) (firstUncovered (circuit_in g) (cubes_in g) g.n) 0
+  pub names : r.cube ≡ cond (eqb r.number 18) (first_uncovered (circuit_in g) (cubes_in g) g.n) 0
   pub fills_verdict : verdict ≡ left_by r.number (over (pack (verdict_fields g)) g.verdict) g.verdict

@@ -9,7 +9,7 @@ use Rattle.circuit.specs.Refusal.{refusal, all_hold, left_by}
 use Rattle.circuit.specs.Table.{ceiling_tests, several, kinds, width, row_tests, table_tests, circuit_of, word_tests, board_tests, lamp_tests, literal_tests, operand_tests}
 use Rattle.cubes.specs.Run.{switches_unknown, next_cube, watched, watched_in, some_low, blocked, start_field, resets, start, search, merge, merge_from, verdict}
 use Rattle.cubes.specs.Buffer.{cube_bytes, cube_of, sound_cube, cube_in, sound_in}
-use Rattle.cubes.specs.Given.{cubeTests, covered, nextCovered, coverTests, firstUncovered}
+use Rattle.cubes.specs.Given.{cube_tests, covered, next_covered, cover_tests, first_uncovered}
 use Rattle.cubes.specs.Chain.{room_in}
 use Rattle.sent.specs.Call.{SentGiven, circuit_in, cubes_in, verdict_tests, sent_tests, verdict_fields}
 
@@ -24,10 +24,10 @@ sends cubes n = record {
 }
 
 unfoldable pub answered : SentGiven → List ℕ
-unfolding tabulate every adjust over code decode both inverse ternary alike allows subsumes blank agree merged byte_of byte_at pack pairs pair_at unpack bad leftover sound signed value pass settle readings refusal all_hold left_by ceiling_tests lamp_tests several kinds width row_tests literal_tests operand_tests table_tests circuit_of word_tests board_tests switches_unknown next_cube watched watched_in some_low blocked start_field resets start search merge merge_from verdict cube_bytes cube_of sound_cube cube_in sound_in room_in first cubeTests covered nextCovered coverTests firstUncovered circuit_in cubes_in verdict_tests sent_tests verdict_fields
+unfolding tabulate every adjust over code decode both inverse ternary alike allows subsumes blank agree merged byte_of byte_at pack pairs pair_at unpack bad leftover sound signed value pass settle readings refusal all_hold left_by ceiling_tests lamp_tests several kinds width row_tests literal_tests operand_tests table_tests circuit_of word_tests board_tests switches_unknown next_cube watched watched_in some_low blocked start_field resets start search merge merge_from verdict cube_bytes cube_of sound_cube cube_in sound_in room_in first cube_tests covered next_covered cover_tests first_uncovered circuit_in cubes_in verdict_tests sent_tests verdict_fields
 answered g =
     let number : ℕ = refusal (sent_tests g) in
-    number ∷ cond (eqb number 18) (firstUncovered (circuit_in g) (cubes_in g) g.n) 0 ∷ left_by number (over (pack (verdict_fields g)) g.verdict) g.verdict
+    number ∷ cond (eqb number 18) (first_uncovered (circuit_in g) (cubes_in g) g.n) 0 ∷ left_by number (over (pack (verdict_fields g)) g.verdict) g.verdict
 
 -- its two cubes in the other order, with a third that is never met, one of them twice and marked otherwise, and all states: accepted, and the last judges nothing
 pub accepts : (answered (sends (0x64 ∷ 0x58 ∷ []) 2) ≡ 0 ∷ 0 ∷ 0x40 ∷ [])

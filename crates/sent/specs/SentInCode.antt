@@ -8,7 +8,7 @@ use Rattle.circuit.specs.RulesInCode.{Legal}
 use Rattle.cubes.specs.Run.{verdict as verdict_of}
 use Rattle.cubes.specs.Buffer.{cube_in}
 use Rattle.cubes.specs.BufferInCode.{Cubes}
-use Rattle.cubes.specs.Given.{firstUncovered}
+use Rattle.cubes.specs.Given.{first_uncovered}
 
 -- the tests before the cubes are looked into pass
 pub record Sendable (c : Counts) (table : List ℕ) (len n : ℕ) (cubes : List ℕ) : Type 0 where
@@ -17,5 +17,5 @@ pub record Sendable (c : Counts) (table : List ℕ) (len n : ℕ) (cubes : List 
 
 -- what the walk through the cubes answers, and leaves where none is uncovered
 pub record Walked (c : Counts) (table cubes : List ℕ) (n : ℕ) (verdict : List ℕ) (r : ℕ) (verdict' : List ℕ) : Type 0 where
-  pub names : r ≡ firstUncovered (circuit_of c table) (cube_in c.latches cubes) n
+  pub names : r ≡ first_uncovered (circuit_of c table) (cube_in c.latches cubes) n
   pub judges : r ≡ n → verdict' ≡ over (pack (verdict_of (circuit_of c table) (cube_in c.latches cubes) n)) verdict

@@ -1,4 +1,6 @@
 // The public cover: cubes worked out elsewhere, sent with their table (specification, 5.11).
+#![tactic(auto)]
+
 ghost use Rattle.std.specs.Prelude.{◌≡◌, ◌+◌, ◌*◌, ◌-◌, ◌<◌, ◌≤◌, length, drop};
 ghost use Rattle.three.specs.Lists.{over};
 ghost use Rattle.three.specs.Record.{bytes_for, pack};

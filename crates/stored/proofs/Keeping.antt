@@ -6,7 +6,7 @@ use native.Mathlib.Nat.{zero-add, one-mul, mul-le-mul_right}
 use native.Mathlib.Omega.{arith}
 use lib.ListN.{length, get_or, set}
 use Rattle.three.proofs.Loops.{Stored, stored_next}
-use Rattle.three.proofs.Lists.{length_tabulate, get_d_tabulate}
+use Rattle.three.proofs.Lists.{length_tabulate, get_or_tabulate}
 use Rattle.stored.specs.CubesInCode.{kept_bytes}
 use Rattle.cubes.specs.HeldInCode.{kept_byte}
 
@@ -19,7 +19,7 @@ module _ (len : ℕ) (held b : List ℕ) where
       → k ≡ kept_byte (get_or b i 0) (get_or held i 0) → Stored out₀ 0 (kept_bytes len held b) len (set out i k) (i + 1)
   unfolding kept_bytes
   kept_next out₀ room out i k s h e =
-      rw zero-add at (stored_next out₀ 0 (kept_bytes len held b) len (omega arith) (omega (arith, length_kept)) out i k 0 s h (e ∙ sym (get_d_tabulate len _ i 0 h)))
+      rw zero-add at (stored_next out₀ 0 (kept_bytes len held b) len (omega arith) (omega (arith, length_kept)) out i k 0 s h (e ∙ sym (get_or_tabulate len _ i 0 h)))
 
 pub behind_one : {n : ℕ} (len : ℕ) → 1 ≤ n → len ≤ n * len
 behind_one {n} len h = omega (arith, mul-le-mul_right len h, one-mul len)

@@ -14,7 +14,7 @@ use Rattle.three.specs.Value.{code, known}
 use Rattle.three.specs.Cube.{Cube}
 use Rattle.three.proofs.First.{first_ext}
 use Rattle.three.proofs.Loops.{Stored, stored_first, stored_next}
-use Rattle.three.proofs.Lists.{length_tabulate, get_d_tabulate, every_ext}
+use Rattle.three.proofs.Lists.{length_tabulate, get_or_tabulate, every_ext}
 use Rattle.cubes.specs.Buffer.{cube_bytes, pack_cube}
 use Rattle.cubes.specs.BufferInCode.{raised_byte, marked_byte}
 use Rattle.cubes.proofs.Raised.{Marked, bytes_packed}
@@ -46,7 +46,7 @@ module _ (len mark : ℕ) (latches : List ℕ) where
     raised_next room out i above byte k r h eb ek = record {
       stored =
           stored_next out₀ at (raised_bytes len mark latches) len room (omega (arith, length_raised)) out i k 0 r.stored h
-          (ek ∙ ap₂ raised_byte r.known eb ∙ sym (get_d_tabulate len _ i 0 h));
+          (ek ∙ ap₂ raised_byte r.known eb ∙ sym (get_or_tabulate len _ i 0 h));
       known = eb ∙ ap (λ (n : ℕ). get_or (mark ∷ latches) n 0) (sym (add-one i));
     }
 
@@ -60,7 +60,7 @@ module _ (len mark : ℕ) (latches : List ℕ) where
 
     pub raised_bytes_lem : Marked size (λ i. get_or (raised_bytes len mark latches) i 0) mark v
     unfolding raised_bytes
-    raised_bytes_lem i h = let l : i < len = rw long h in get_d_tabulate len _ i 0 l ∙ marked_raised i l
+    raised_bytes_lem i h = let l : i < len = rw long h in get_or_tabulate len _ i 0 l ∙ marked_raised i l
 
     pub raised_packed : (m : Bool) → mark ≡ code (known m) → length v ≡ size → raised_bytes len mark latches ≡ pack_cube m v
     unfolding raised_bytes

@@ -4,7 +4,7 @@ use mathlib.Core.List.{List, map}
 use Prim.Native.Nat.{ℕ, zero, suc, ◌+◌, ◌*◌, ◌<◌, ◌≤◌}
 use lib.ListN.{length, get_or}
 use Rattle.three.specs.Value.{unknown, code}
-use Rattle.three.proofs.Lists.{length_tabulate, get_d_tabulate, get_d_beyond, map_tabulate}
+use Rattle.three.proofs.Lists.{length_tabulate, get_or_tabulate, get_or_beyond, map_tabulate}
 use Rattle.circuit.specs.declared.Counts.{Counts}
 use Rattle.circuit.specs.Table.{circuit_of}
 use Rattle.cubes.specs.Run.{start_field, resets, start}
@@ -21,12 +21,12 @@ module _ (words : List ℕ) (count : ℕ) where
 
   pub start_beyond : (i : ℕ) → count ≤ i → 0 ≡ code (get_or (start_fields words count) i unknown)
   unfolding start_fields code
-  start_beyond i h = ap code (sym (get_d_beyond count _ i unknown h))
+  start_beyond i h = ap code (sym (get_or_beyond count _ i unknown h))
 
   module _ (i : ℕ) (h : i < count) where
     start_within : start_field (get_or words (2 * i + 1) 0) ≡ get_or (start_fields words count) i unknown
     unfolding start_fields
-    start_within = sym (get_d_tabulate count _ i unknown h)
+    start_within = sym (get_or_tabulate count _ i unknown h)
 
     pub start_low : get_or words (2 * i + 1) 0 ≡ 0 → 1 ≡ code (get_or (start_fields words count) i unknown)
     unfolding start_field code

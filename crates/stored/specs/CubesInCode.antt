@@ -1,5 +1,5 @@
 -- How the code keeps cubes one after the other in a buffer; nothing here has to be believed. Assumes nothing.
-use Rattle.std.specs.Prelude.{Bool, true, false, List, ◌∷◌, ℕ, zero, suc, ◌+◌, ◌*◌, eqb, get_or, replicate}
+use Rattle.std.specs.Prelude.{Bool, List, ◌∷◌, ℕ, ◌+◌, ◌*◌, eqb, get_or, replicate}
 use Rattle.std.specs.Int.Bits.{bit_and}
 use Rattle.three.specs.Lists.{tabulate, every}
 use Rattle.three.specs.Value.{unknown, low, ternary}

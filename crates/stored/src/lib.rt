@@ -1,4 +1,6 @@
 // Cubes in a buffer: cube 0, the next state of a stored cube, constraints, the search (specification, 5.1 to 5.3).
+#![tactic(auto)]
+
 ghost use Rattle.std.specs.Prelude.{◌≡◌, suc, ◌+◌, ◌*◌, ◌-◌, ◌<◌, ◌≤◌, length, get_or, drop, replicate};
 ghost use Rattle.std.proofs.Math.Seq.{paste};
 ghost use Rattle.three.specs.Lists.{every, first, over};
@@ -9,11 +11,11 @@ ghost use Rattle.circuit.specs.Refusal.{refusal};
 ghost use Rattle.circuit.specs.Table.{constraints_at, circuit_of};
 ghost use Rattle.circuit.specs.RulesInCode.{Bounded, Legal};
 ghost use Rattle.pass.specs.ValuesInCode.{values_of, Working, literal_values};
-ghost use Rattle.cubes.specs.Run.{next_cube, some_low, blocked as isBlocked, start as start_of};
+ghost use Rattle.cubes.specs.Run.{next_cube, some_low, blocked as is_blocked, start as start_of};
 ghost use Rattle.cubes.specs.Buffer.{cube_bytes, cube_of, sound_cube, sound_in};
 ghost use Rattle.cubes.specs.BufferInCode.{longest_cube, IsCube, raised_byte, lowered_byte};
 ghost use Rattle.cubes.specs.HeldInCode.{kept_byte};
-ghost use Rattle.cubes.specs.Given.{cubeTests};
+ghost use Rattle.cubes.specs.Given.{cube_tests};
 ghost use Rattle.stored.specs.CubesInCode.{start_fields, raised_bytes, kept_bytes, covers_from, SwitchesX, Settled};
 
 use circuit::Counts;
@@ -176,7 +178,7 @@ fn cubes_sound(latches: usize, cubes: &[u8], n: usize) -> bool
 // The refusals of n cubes that are given, in order: 10, 14; 0 for none.
 pub fn cubes_refusal(counts: Counts, cubes: &[u8], n: usize) -> u32
     requires { Bounded counts }
-    ensures { result ≡ refusal (cubeTests counts cubes.now n) }
+    ensures { result ≡ refusal (cube_tests counts cubes.now n) }
 {
     if n > cubes.len() / cube_bytes(counts.latches) {
         return 10;
@@ -215,7 +217,7 @@ fn constraint_low(counts: Counts, table: &[u16], values: &Values) -> bool
 // Some constraint is 0 in a cube whose latches are given as a record, with all switches X; where there is none no pass is made.
 pub fn blocked(counts: Counts, table: &[u16], latches: &[u8], values: &mut Values) -> bool
     requires { Legal counts table.now × IsRecord counts.latches latches.now × SwitchesX counts values.old }
-    ensures { (result ≡ isBlocked (circuit_of counts table.now) (unpack counts.latches latches.now)) × SwitchesX counts values.new }
+    ensures { (result ≡ is_blocked (circuit_of counts table.now) (unpack counts.latches latches.now)) × SwitchesX counts values.new }
 {
     if counts.constraints == 0 {
         return false;
@@ -227,7 +229,7 @@ pub fn blocked(counts: Counts, table: &[u16], latches: &[u8], values: &mut Value
 // Some constraint is 0 in cube 0.
 pub fn start_blocked(counts: Counts, table: &[u16]) -> bool
     requires { Legal counts table.now }
-    ensures { result ≡ isBlocked (circuit_of counts table.now) (start_of (circuit_of counts table.now)) }
+    ensures { result ≡ is_blocked (circuit_of counts table.now) (start_of (circuit_of counts table.now)) }
 {
     if counts.constraints == 0 {
         return false;

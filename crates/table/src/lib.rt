@@ -1,4 +1,6 @@
 // The refusals of a table of words: 3, 10 and 11 (specification, 3.5 to 3.7), and 16 for a run (5.8).
+#![tactic(auto)]
+
 ghost use Rattle.std.specs.Prelude.{◌≡◌, ◌+◌, ◌*◌, ◌<◌, ◌≤◌, length};
 ghost use Rattle.three.specs.Lists.{every};
 ghost use Rattle.circuit.specs.Refusal.{all_hold, refusal};

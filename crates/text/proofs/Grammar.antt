@@ -16,7 +16,7 @@ use Rattle.text.specs.Text.{magic, words, shown_own, line_tests, ends, Lines, re
 use Rattle.text.proofs.Parts.{by_part}
 use Rattle.circuit.proofs.Refusals.{passed_append, passed_refusal}
 use Rattle.text.proofs.Outcomes.{append_passed, accepted_same}
-use Rattle.text.proofs.Lines.{front_strip, Short, line_split, split_line_lem, strip_front, Proper}
+use Rattle.text.proofs.Lines.{front_strip, line_split, split_line_lem, strip_front, Proper}
 use Rattle.text.proofs.Heads.{Heads, heads_fit, head_bounded, head_shows}
 use Rattle.text.proofs.Steps.{end_fits, line_fits, LineRead, line_accepted, header_fits, header_accepted, line_numbered}
 use Rattle.text.proofs.Tables.{size, size_kinds, Owned, owned_kinds, Taken, taken, taken_refusal}
@@ -47,7 +47,7 @@ pub record Describes (ending t : List ℕ) (c : Content) : Type 0 where
 
 -- ---- what describes a circuit is read
 
-says_read : {ending : List ℕ} → Proper ending → (most : ℕ) {ks : List Kind} {r ws t : List ℕ}
+says_read : {ending : List ℕ} → Proper ending → (most : ℕ) {r : List ℕ} {ks : List Kind} {ws t : List ℕ}
     → most < 100000 → Owned most ks → Says ending r ks ws t → Passed (table_tests most ks ws) → (os : List ℕ) × (read_lines ending (line_tests most) ks t ≡ accepted (record { owns = os; words = ws; rest = r }))
 unfolding read_lines onward table_tests
 says_read e most m o stop p = ([], refl)

@@ -9,7 +9,7 @@ use lib.Dec.{leb, eqb}
 use lib.ListN.{length, get_or, drop, get_or-eq_default}
 use lib.Seq.{drop_at}
 use Rattle.three.specs.Lists.{tabulate}
-use Rattle.three.proofs.Lists.{and_parts, by_test, tabulate_get_d}
+use Rattle.three.proofs.Lists.{and_parts, by_test, tabulate_get_or}
 use Rattle.circuit.specs.RulesInCode.{Passed}
 use Rattle.circuit.specs.Table.{Kind, input, latch, literal, gate, width, row_tests, literal_tests, operand_tests}
 use Rattle.text.specs.Text.{fits, owns, words, line_tests, reset_word, shown}
@@ -60,14 +60,20 @@ shown_spelled own next (suc (suc (suc n))) ws o r = absurd (omega arith)
 
 pub length_words : (k : Kind) (ns : List ℕ) → length (words k ns) ≡ width k
 unfolding words width
-length_words k ns = elim k [ input own ↦ refl | latch own ↦ refl | gate own ↦ refl | literal ↦ refl ]
+length_words (input own) ns = refl
+length_words (latch own) ns = refl
+length_words (gate own) ns = refl
+length_words literal ns = refl
 
 pub drop_words : (k : Kind) (ns ws : List ℕ) → drop (width k) (words k ns ++ ws) ≡ ws
 drop_words k ns ws = drop_at (words k ns) ws (width k) (length_words k ns)
 
 pub rules_words : (most : ℕ) (k : Kind) (ns ws : List ℕ) → row_tests most k (words k ns ++ ws) ≡ row_tests most k (words k ns)
 unfolding words row_tests literal_tests operand_tests
-rules_words most k ns ws = elim k [ input own ↦ refl | latch own ↦ refl | gate own ↦ refl | literal ↦ refl ]
+rules_words most (input own) ns ws = refl
+rules_words most (latch own) ns ws = refl
+rules_words most (gate own) ns ws = refl
+rules_words most literal ns ws = refl
 
 -- ---- what is spelled is read
 
@@ -89,7 +95,7 @@ seen m d (gate_line {own = own}) p = record { shape = omega (arith, leb-true); p
 
 -- a list is its items
 pub listed : (n : ℕ) (ns : List ℕ) → length ns ≡ n → ns ≡ tabulate n (λ i. get_or ns i 0)
-listed n ns h = sym (rw (← h) (tabulate_get_d ns 0))
+listed n ns h = sym (rw (← h) (tabulate_get_or ns 0))
 
 pub spelled : (k : Kind) (ns ws : List ℕ) → fits k (length ns) ≡ true → owns k ns ≡ true → Spelled ws k (words k ns ++ ws) ns
 unfolding fits owns words tabulate

@@ -1,7 +1,7 @@
 -- Reading a step at a time, in the order of the refusals: what stops it, what lets it go on, and what it accepted. Assumes nothing.
 use mathlib.Core.Path.{◌≡◌, ◌∙◌}
 use mathlib.Core.Bool.{true, false}
-use mathlib.Core.List.{List, [], ◌∷◌, ◌++◌}
+use mathlib.Core.List.{List, [], ◌∷◌}
 use Prim.Native.Nat.{ℕ, suc, ◌≤◌, ◌<◌}
 use native.Mathlib.Omega.{arith}
 use borrow.Author.Tests.{leb-true, le-leb, lt-leb}
@@ -56,7 +56,10 @@ module _ (ending : List ℕ) (tests : Kind → List ℕ → List Test) (k : Kind
 
 pub line_numbered : (most : ℕ) (k : Kind) (ns : List ℕ) → Numbered (line_tests most k ns)
 unfolding line_tests row_tests literal_tests operand_tests
-line_numbered most k ns = elim k [ input own ↦ omega arith | latch own ↦ omega arith | gate own ↦ omega arith | literal ↦ omega arith ]
+line_numbered most (input own) ns = omega arith
+line_numbered most (latch own) ns = omega arith
+line_numbered most (gate own) ns = omega arith
+line_numbered most literal ns = omega arith
 
 -- ---- 9, after the last line
 

@@ -1,4 +1,5 @@
 // What the reader and the writer share of the text of a circuit (specification, 4); the definitions and their laws stand beside it.
+#![tactic(auto)]
 
 // The file opens with the four bytes `aag` and a space.
 pub const MAGIC: [u8; 4] = *b"aag ";

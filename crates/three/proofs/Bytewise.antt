@@ -16,10 +16,10 @@ use Rattle.three.specs.Record.{bytes_for, byte_of, byte_at, pack, unpack}
 use Rattle.three.specs.RecordInCode.{IsRecord}
 use Rattle.three.proofs.Lists.{iff, every_at, every_all}
 use Rattle.three.proofs.Bytes.{code_small}
-use Rattle.three.proofs.Pack.{length_pack, get_d_pack, unpack_pack, length_unpack}
+use Rattle.three.proofs.Pack.{length_pack, get_or_pack, unpack_pack, length_unpack}
 use Rattle.three.proofs.Soundness.{pack_unpack}
 use Rattle.three.proofs.Fields.{of_two}
-use Rattle.three.proofs.Merge.{get_d_merged, length_merged, subsumes_keeps, keeps_subsumes}
+use Rattle.three.proofs.Merge.{get_or_merged, length_merged, subsumes_keeps, keeps_subsumes}
 
 -- ---- a field, then a byte
 
@@ -47,8 +47,8 @@ pub and_pack : (a b : Cube) → length a ≡ length b → (k : ℕ) → k < byte
 unfolding byte_at
 and_pack a b e k h =
     let long = length_merged a b in
-    ap₂ bit_and (get_d_pack a k h) (get_d_pack b k (omega arith)) ∙ and_byte _ _ _ _ _ _ _ _
-    ∙ sym (get_d_pack (merged a b) k (omega arith) ∙ simp get_d_merged)
+    ap₂ bit_and (get_or_pack a k h) (get_or_pack b k (omega arith)) ∙ and_byte _ _ _ _ _ _ _ _
+    ∙ sym (get_or_pack (merged a b) k (omega arith) ∙ simp get_or_merged)
 
 module _ (f k : ℕ) (h : k < bytes_for f) where
   -- a given record's bytes are those of its fields

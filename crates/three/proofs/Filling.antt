@@ -11,7 +11,7 @@ use Rattle.three.specs.Cube.{Cube}
 use Rattle.three.specs.Record.{bytes_for, byte_of, byte_at, pack}
 use Rattle.three.proofs.Loops.{Stored, stored_next, stored_last, over_paste}
 use Rattle.three.proofs.Bytes.{code_small, decode_code}
-use Rattle.three.proofs.Pack.{length_pack, get_d_pack}
+use Rattle.three.proofs.Pack.{length_pack, get_or_pack}
 
 -- what a code says of its value
 pub is_small : {r : ℕ} (v : Three) → r ≡ code v → r < 3
@@ -43,7 +43,7 @@ module _ (fields : Cube) where
     pub fill_next : (out : List ℕ) (k byte : ℕ) → bytes_for f ≤ length out₀ → Stored out₀ 0 (pack fields) (bytes_for f) out k → k < bytes_for f → byte ≡ byte_at fields k
         → Stored out₀ 0 (pack fields) (bytes_for f) (set out k byte) (k + 1)
     fill_next out k byte room s h e =
-        rw zero-add at (stored_next out₀ 0 (pack fields) (bytes_for f) (omega arith) (omega (arith, length_bytes)) out k byte 0 s h (e ∙ sym (get_d_pack fields k (rw sized h))))
+        rw zero-add at (stored_next out₀ 0 (pack fields) (bytes_for f) (omega arith) (omega (arith, length_bytes)) out k byte 0 s h (e ∙ sym (get_or_pack fields k (rw sized h))))
 
     pub fill_last : (out : List ℕ) (k : ℕ) → Stored out₀ 0 (pack fields) (bytes_for f) out k → bytes_for f ≤ k → out ≡ over (pack fields) out₀
     fill_last out k s h = stored_last out₀ 0 (pack fields) (bytes_for f) out k s h ∙ rw (← length_bytes) (over_paste out₀ (pack fields))

@@ -2,7 +2,7 @@
 use mathlib.Core.Path.{◌≡◌, refl, sym, ap, ap₂, ◌∙◌}
 use mathlib.Core.Bool.{Bool, true, false, ◌&&◌, ◌||◌, false≢true, true≢false}
 use mathlib.Core.List.{List, [], ◌∷◌, ◌++◌, map}
-use Prim.Native.Nat.{ℕ, zero, suc, ◌+◌, ◌-◌, ◌<◌, ◌≤◌, suc-le-suc}
+use Prim.Native.Nat.{ℕ, zero, suc, ◌+◌, ◌<◌, ◌≤◌, suc-le-suc}
 use native.Mathlib.Nat.{le_of_suc-le-suc, not-suc-le-zero, zero-add, suc-add}
 use native.Mathlib.Omega.{arith}
 use lib.ListN.{length, get_or, set}
@@ -36,17 +36,17 @@ unfolding tabulate
 length_tabulate zero f = refl
 length_tabulate (suc n) f = ap suc (length_tabulate n (λ i. f (suc i)))
 
-pub get_d_tabulate {ℓ} : {A : Type ℓ} (n : ℕ) (f : ℕ → A) (i : ℕ) (d : A) → i < n → get_or (tabulate n f) i d ≡ f i
+pub get_or_tabulate {ℓ} : {A : Type ℓ} (n : ℕ) (f : ℕ → A) (i : ℕ) (d : A) → i < n → get_or (tabulate n f) i d ≡ f i
 unfolding tabulate
-get_d_tabulate zero f i d h = absurd (not-suc-le-zero h)
-get_d_tabulate (suc n) f zero d h = refl
-get_d_tabulate (suc n) f (suc i) d h = get_d_tabulate n (λ k. f (suc k)) i d (le_of_suc-le-suc h)
+get_or_tabulate zero f i d h = absurd (not-suc-le-zero h)
+get_or_tabulate (suc n) f zero d h = refl
+get_or_tabulate (suc n) f (suc i) d h = get_or_tabulate n (λ k. f (suc k)) i d (le_of_suc-le-suc h)
 
-pub get_d_beyond {ℓ} : {A : Type ℓ} (n : ℕ) (f : ℕ → A) (i : ℕ) (d : A) → n ≤ i → get_or (tabulate n f) i d ≡ d
+pub get_or_beyond {ℓ} : {A : Type ℓ} (n : ℕ) (f : ℕ → A) (i : ℕ) (d : A) → n ≤ i → get_or (tabulate n f) i d ≡ d
 unfolding tabulate
-get_d_beyond zero f i d h = refl
-get_d_beyond (suc n) f zero d h = absurd (not-suc-le-zero h)
-get_d_beyond (suc n) f (suc i) d h = get_d_beyond n (λ k. f (suc k)) i d (le_of_suc-le-suc h)
+get_or_beyond zero f i d h = refl
+get_or_beyond (suc n) f zero d h = absurd (not-suc-le-zero h)
+get_or_beyond (suc n) f (suc i) d h = get_or_beyond n (λ k. f (suc k)) i d (le_of_suc-le-suc h)
 
 pub map_tabulate {ℓ κ} : {A : Type ℓ} {B : Type κ} (g : A → B) (n : ℕ) (f : ℕ → A) → map g (tabulate n f) ≡ tabulate n (λ i. g (f i))
 unfolding tabulate
@@ -60,10 +60,10 @@ tabulate_ext zero f g h = refl
 tabulate_ext (suc n) f g h = ap₂ (λ x l. x ∷ l) (h zero (omega arith)) (tabulate_ext n (λ i. f (suc i)) (λ i. g (suc i)) (λ i k. h (suc i) (suc-le-suc k)))
 
 -- a list is its items
-pub tabulate_get_d {ℓ} : {A : Type ℓ} (l : List A) (d : A) → tabulate (length l) (λ i. get_or l i d) ≡ l
+pub tabulate_get_or {ℓ} : {A : Type ℓ} (l : List A) (d : A) → tabulate (length l) (λ i. get_or l i d) ≡ l
 unfolding tabulate
-tabulate_get_d [] d = refl
-tabulate_get_d (x ∷ l) d = ap (λ m. x ∷ m) (tabulate_get_d l d)
+tabulate_get_or [] d = refl
+tabulate_get_or (x ∷ l) d = ap (λ m. x ∷ m) (tabulate_get_or l d)
 
 -- the first m, and those behind them
 pub tabulate_append {ℓ} : {A : Type ℓ} (m n : ℕ) (f : ℕ → A) → tabulate (m + n) f ≡ tabulate m f ++ tabulate n (λ i. f (m + i))
@@ -81,10 +81,10 @@ tabulate_set (suc n) f g zero e h = ap₂ (λ x l. x ∷ l) e (tabulate_ext n (�
 tabulate_set (suc n) f g (suc v) e h = ap₂ (λ x l. x ∷ l) (h zero (λ q. omega arith)) (tabulate_set n (λ i. f (suc i)) (λ i. g (suc i)) v e (λ i k. h (suc i) (λ q. k (omega arith))))
 
 -- within a list the default does not matter
-pub get_d_any : {A : Type 0} (l : List A) (i : ℕ) (d e : A) → i < length l → get_or l i d ≡ get_or l i e
-get_d_any [] i d e h = absurd (not-suc-le-zero h)
-get_d_any (x ∷ l) zero d e h = refl
-get_d_any (x ∷ l) (suc i) d e h = get_d_any l i d e (le_of_suc-le-suc h)
+pub get_or_any : {A : Type 0} (l : List A) (i : ℕ) (d e : A) → i < length l → get_or l i d ≡ get_or l i e
+get_or_any [] i d e h = absurd (not-suc-le-zero h)
+get_or_any (x ∷ l) zero d e h = refl
+get_or_any (x ∷ l) (suc i) d e h = get_or_any l i d e (le_of_suc-le-suc h)
 
 -- ---- every
 
@@ -118,10 +118,10 @@ length_adjust f (x ∷ xs) (y ∷ ys) = ap suc (length_adjust f xs ys)
 
 -- ---- Each
 
-pub each_get_d : {A B : Type 0} {R : A → B → Type 0} {xs : List A} {ys : List B} → Each R xs ys → {d : A} {e : B} → R d e → (i : ℕ) → R (get_or xs i d) (get_or ys i e)
-each_get_d empty r i = r
-each_get_d (also s rs) r zero = s
-each_get_d (also s rs) r (suc i) = each_get_d rs r i
+pub each_get_or : {A B : Type 0} {R : A → B → Type 0} {xs : List A} {ys : List B} → Each R xs ys → {d : A} {e : B} → R d e → (i : ℕ) → R (get_or xs i d) (get_or ys i e)
+each_get_or empty r i = r
+each_get_or (also s rs) r zero = s
+each_get_or (also s rs) r (suc i) = each_get_or rs r i
 
 pub each_self : {A : Type 0} {R : A → A → Type 0} → ((x : A) → R x x) → (l : List A) → Each R l l
 each_self same [] = empty

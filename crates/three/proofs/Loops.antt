@@ -34,8 +34,8 @@ module _ {A : Type 0} (d : List A) (p : ℕ) (s : List A) (n : ℕ) where
   stored_last e i c h = let i= : i ≡ n = omega (arith, c.within) in rw (← i=) c.same
 
 -- what lies beyond the stored items stays
-pub get_d_paste : {A : Type 0} (d : List A) (p : ℕ) (s : List A) (n i : ℕ) (z : A) → p ≤ length d → n ≤ length s → p + n ≤ i → get_or (paste d p s n) i z ≡ get_or d i z
-get_d_paste d p s n i z room from h =
+pub get_or_paste : {A : Type 0} (d : List A) (p : ℕ) (s : List A) (n i : ℕ) (z : A) → p ≤ length d → n ≤ length s → p + n ≤ i → get_or (paste d p s n) i z ≡ get_or d i z
+get_or_paste d p s n i z room from h =
     let place : p + n + (i - (p + n)) ≡ i = omega arith in
     rw (← place) (sym (get_or-drop (p + n) (paste d p s n) (i - (p + n)) z) ∙ ap (λ l. get_or l (i - (p + n)) z) (drop-paste d p s n room from) ∙ get_or-drop (p + n) d (i - (p + n)) z)
 

@@ -13,13 +13,13 @@ use Rattle.three.proofs.Fields.{agree_same, agree_order, agree_grouping, agree_u
 
 -- ---- cubes
 
-pub get_d_merged : (a b : Cube) → length a ≡ length b → (i : ℕ) → get_or (merged a b) i unknown ≡ agree (get_or a i unknown) (get_or b i unknown)
+pub get_or_merged : (a b : Cube) → length a ≡ length b → (i : ℕ) → get_or (merged a b) i unknown ≡ agree (get_or a i unknown) (get_or b i unknown)
 unfolding merged adjust
-get_d_merged [] [] e i = sym (agree_same unknown)
-get_d_merged [] (y ∷ b) e i = absurd (omega arith)
-get_d_merged (x ∷ a) [] e i = absurd (omega arith)
-get_d_merged (x ∷ a) (y ∷ b) e zero = refl
-get_d_merged (x ∷ a) (y ∷ b) e (suc i) = get_d_merged a b (omega arith) i
+get_or_merged [] [] e i = sym (agree_same unknown)
+get_or_merged [] (y ∷ b) e i = absurd (omega arith)
+get_or_merged (x ∷ a) [] e i = absurd (omega arith)
+get_or_merged (x ∷ a) (y ∷ b) e zero = refl
+get_or_merged (x ∷ a) (y ∷ b) e (suc i) = get_or_merged a b (omega arith) i
 
 pub length_merged : (a b : Cube) → length (merged a b) ≡ length a
 unfolding merged

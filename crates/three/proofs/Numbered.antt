@@ -7,7 +7,7 @@ use native.Mathlib.Omega.{arith}
 use lib.ListN.{length}
 use Rattle.three.specs.Value.{Three, unknown, low, high, code}
 use Rattle.three.specs.Cube.{Cube}
-use Rattle.three.proofs.Pigeons.{Twice, pigeons}
+use Rattle.three.proofs.Pigeons.{pigeons}
 
 numbered : Cube → ℕ
 numbered [] = 0

@@ -1,7 +1,7 @@
 -- Laws of a record: its length, its bytes, and its fields read back. Assumes nothing.
 use mathlib.Core.Path.{◌≡◌, refl, sym, ap, ◌∙◌}
 use mathlib.Core.List.{List}
-use Prim.Native.Nat.{ℕ, zero, suc, ◌+◌, ◌*◌, ◌-◌, ◌/◌, ◌%◌, ◌<◌}
+use Prim.Native.Nat.{ℕ, zero, suc, ◌+◌, ◌*◌, ◌/◌, ◌%◌, ◌<◌}
 use native.Mathlib.Nat.{add-zero}
 use native.Mathlib.Omega.{arith}
 use borrow.Author.Tests.{eqb-true, eqb-false}
@@ -12,7 +12,7 @@ use Rattle.three.specs.Lists.{over}
 use Rattle.three.specs.Value.{unknown, code, decode}
 use Rattle.three.specs.Cube.{Cube}
 use Rattle.three.specs.Record.{bytes_for, byte_at, pack, pairs, pair_at, unpack}
-use Rattle.three.proofs.Lists.{by_test, length_tabulate, get_d_tabulate, tabulate_ext, tabulate_get_d, tabulate_set}
+use Rattle.three.proofs.Lists.{by_test, length_tabulate, get_or_tabulate, tabulate_ext, tabulate_get_or, tabulate_set}
 use Rattle.three.proofs.Bytes.{pairs_byte, decode_code}
 
 -- ---- the record of given fields
@@ -21,9 +21,9 @@ pub length_pack : (fs : Cube) → length (pack fs) ≡ bytes_for (length fs)
 unfolding pack
 length_pack fs = length_tabulate (bytes_for (length fs)) (byte_at fs)
 
-pub get_d_pack : (fs : Cube) (k : ℕ) → k < bytes_for (length fs) → get_or (pack fs) k 0 ≡ byte_at fs k
+pub get_or_pack : (fs : Cube) (k : ℕ) → k < bytes_for (length fs) → get_or (pack fs) k 0 ≡ byte_at fs k
 unfolding pack
-get_d_pack fs k h = get_d_tabulate (bytes_for (length fs)) (byte_at fs) k 0 h
+get_or_pack fs k h = get_or_tabulate (bytes_for (length fs)) (byte_at fs) k 0 h
 
 pub byte_at_pair : (fs : Cube) (k j : ℕ) → j < 4 → get_or (pairs (byte_at fs k)) j 0 ≡ code (get_or fs (4 * k + j) unknown)
 unfolding byte_at
@@ -37,7 +37,7 @@ pub pair_pack : (fs : Cube) (i : ℕ) → i < 4 * bytes_for (length fs) → pair
 unfolding pair_at
 pair_pack fs i h =
     let whole : 4 * (i / 4) + i % 4 ≡ i = omega arith in
-    ap (λ b. get_or (pairs b) (i % 4) 0) (get_d_pack fs (i / 4) (omega arith))
+    ap (λ b. get_or (pairs b) (i % 4) 0) (get_or_pack fs (i / 4) (omega arith))
     ∙ byte_at_pair fs (i / 4) (i % 4) (omega arith)
     ∙ ap (λ n. code (get_or fs n unknown)) whole
 
@@ -51,7 +51,7 @@ pub unpack_pack : (fs : Cube) → unpack (length fs) (pack fs) ≡ fs
 unfolding unpack
 unpack_pack fs =
     tabulate_ext (length fs) (λ i. decode (pair_at (pack fs) i)) (λ i. get_or fs i unknown) (λ i h. ap decode (pair_pack fs i (omega arith)) ∙ decode_code (get_or fs i unknown))
-    ∙ tabulate_get_d fs unknown
+    ∙ tabulate_get_or fs unknown
 
 pub pair_take : (n : ℕ) (bytes : List ℕ) (i : ℕ) → i < 4 * n → pair_at (take n bytes) i ≡ pair_at bytes i
 unfolding pair_at

@@ -14,9 +14,9 @@ use Rattle.three.specs.Value.{Three, unknown, code, decode}
 use Rattle.three.specs.Cube.{Cube}
 use Rattle.three.specs.Record.{bytes_for, byte_of, byte_at, pack, pairs, pair_at, unpack, bad, leftover, sound}
 use Rattle.three.specs.RecordInCode.{IsRecord}
-use Rattle.three.proofs.Lists.{and_parts, by_test, get_d_tabulate, get_d_beyond, tabulate_ext, tabulate_get_d, every_at, every_all, every_ext}
+use Rattle.three.proofs.Lists.{and_parts, by_test, get_or_tabulate, get_or_beyond, tabulate_ext, tabulate_get_or, every_at, every_all, every_ext}
 use Rattle.three.proofs.Bytes.{pair_digit, pair_of_byte, code_decode, byte_small, no_11, leftover_byte, whole_byte, byte_good}
-use Rattle.three.proofs.Pack.{get_d_pack, length_pack, length_unpack, pair_pack, take_over}
+use Rattle.three.proofs.Pack.{get_or_pack, length_pack, length_unpack, pair_pack, take_over}
 
 -- ---- a sound record
 
@@ -72,8 +72,8 @@ unfolding sound byte_at code
 sound_pack fs =
     let f : ℕ = length fs in
     let n : ℕ = bytes_for f in
-    let good = every_all n (good_byte (pack fs)) (λ k h. rw (get_d_pack fs k h, byte_good)) in
-    let small : get_or (pack fs) (n - 1) 0 < 256 = rw (get_d_pack fs (n - 1) (omega arith)) (byte_small _ _ _ _) in
+    let good = every_all n (good_byte (pack fs)) (λ k h. rw (get_or_pack fs k h, byte_good)) in
+    let small : get_or (pack fs) (n - 1) 0 < 256 = rw (get_or_pack fs (n - 1) (omega arith)) (byte_small _ _ _ _) in
     let blank = every_all (4 * n - f) (blank_pair f (pack fs)) (λ e h. rw (pair_pack fs (4 * n - 1 - e) (omega arith), get_or-eq_default fs unknown {n = 4 * n - 1 - e} (omega arith))) in
     ap₂ (λ x y. x && y) good (leftover_pairs f (pack fs) small ∙ blank)
 
@@ -94,8 +94,8 @@ module _ (f : ℕ) (bytes : List ℕ) (small : (i : ℕ) → get_or bytes i 0 < 
   code_unpack i h =
       let field : ℕ → Three = λ n. decode (pair_at bytes n) in
       by_test (ltb i f)
-      (λ t. ap code (get_d_tabulate f field i unknown (ltb-true i f t)) ∙ code_decode (pair_at bytes i) (sound_pair f bytes s i h))
-      (λ t. let from = ltb-false i f t in ap code (get_d_beyond f field i unknown from) ∙ sym (sound_leftover f bytes s (small _) i from h))
+      (λ t. ap code (get_or_tabulate f field i unknown (ltb-true i f t)) ∙ code_decode (pair_at bytes i) (sound_pair f bytes s i h))
+      (λ t. let from = ltb-false i f t in ap code (get_or_beyond f field i unknown from) ∙ sym (sound_leftover f bytes s (small _) i from h))
 
   code_pair : (k j : ℕ) → k < bytes_for f → j < 4 → code (get_or (unpack f bytes) (4 * k + j) unknown) ≡ get_or (pairs (get_or bytes k 0)) j 0
   code_pair k j h below = code_unpack (4 * k + j) (omega arith) ∙ pair_of_byte bytes k j below
@@ -111,4 +111,4 @@ pack_unpack f bytes fits small s =
     let n : ℕ = bytes_for f in
     rw length_unpack
     (tabulate_ext n (byte_at (unpack f bytes)) (λ k. get_or (take n bytes) k 0) (λ k h. byte_at_unpack f bytes small s k h ∙ sym (get_or-take n bytes k 0 h))
-    ∙ rw (length-take-le n bytes fits) at (tabulate_get_d (take n bytes) 0))
+    ∙ rw (length-take-le n bytes fits) at (tabulate_get_or (take n bytes) 0))

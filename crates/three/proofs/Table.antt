@@ -4,15 +4,15 @@ use mathlib.Core.List.{[]}
 use Prim.Native.Nat.{ℕ, ◌<◌}
 use lib.ListN.{get_or}
 use Rattle.three.specs.Lists.{tabulate}
-use Rattle.three.proofs.Lists.{get_d_tabulate}
+use Rattle.three.proofs.Lists.{get_or_tabulate}
 
 module _ {A : Type 0} (d : A) where
   pub entry : (rule : ℕ → A) (n k : ℕ) → k < n → get_or (tabulate n rule) k d ≡ rule k
-  entry rule n k h = get_d_tabulate n rule k d h
+  entry rule n k h = get_or_tabulate n rule k d h
 
   -- a table of rows
   pub entry_of_row : (rule : ℕ → ℕ → A) (m n i j : ℕ) → i < m → j < n → get_or (get_or (tabulate m (λ k. tabulate n (rule k))) i []) j d ≡ rule i j
-  entry_of_row rule m n i j h k = ap (λ row. get_or row j d) (get_d_tabulate m (λ r. tabulate n (rule r)) i [] h) ∙ entry (rule i) n j k
+  entry_of_row rule m n i j h k = ap (λ row. get_or row j d) (get_or_tabulate m (λ r. tabulate n (rule r)) i [] h) ∙ entry (rule i) n j k
 
   -- two rules with the same answers
   pub same_answers : (f g : ℕ → A) (n k : ℕ) → tabulate n f ≡ tabulate n g → k < n → f k ≡ g k

@@ -1,10 +1,12 @@
 // Values 0, 1 and X, and records of two-bit fields (specification, 2). A value is its two bits: 0 unknown, 1 low, 2 high.
+#![tactic(auto)]
+
 ghost use Rattle.std.specs.Prelude.{◌≡◌, ◌*◌, ◌<◌, ◌≤◌, length, set};
 ghost use Rattle.three.specs.Lists.{over};
 ghost use Rattle.three.specs.Value.{code, decode, both};
 ghost use Rattle.three.specs.RecordInCode.{gate_table};
 ghost use Rattle.three.specs.Cube.{merged, known_fields};
-ghost use Rattle.three.specs.Record.{bytes_for, byte_of, pack, pairs, pair_at, unpack, sound as soundRecord};
+ghost use Rattle.three.specs.Record.{bytes_for, byte_of, pack, pairs, pair_at, unpack, sound as sound_record};
 ghost use Rattle.three.specs.RecordInCode.{judged};
 ghost use Rattle.three.specs.RecordInCode.{known_table, IsRecord};
 
@@ -75,7 +77,7 @@ pub fn record_length(fields: usize) -> usize
 // A given record has no pair 11 and no leftover bit set.
 pub fn sound(counts: &[u8; 256], bytes: &[u8], fields: usize) -> bool
     requires { (counts.now ≡ known_table) × (fields ≤ 4096) × (bytes_for fields ≤ length bytes.now) }
-    ensures { result ≡ soundRecord fields bytes.now }
+    ensures { result ≡ sound_record fields bytes.now }
 {
     let len = record_length(fields);
     for k in 0..len {

@@ -2,7 +2,7 @@
 use mathlib.Core.Path.{◌≡◌, ◌∙◌}
 use mathlib.Core.Bool.{true, false}
 use mathlib.Core.List.{List, ◌∷◌, ◌++◌}
-use Prim.Native.Nat.{ℕ, ◌+◌, ◌<◌, ◌≤◌}
+use Prim.Native.Nat.{ℕ, ◌<◌, ◌≤◌}
 use native.Mathlib.Omega.{arith}
 use borrow.Author.Tests.{leb-true, le-leb, lt-leb}
 use lib.Dec.{leb}
@@ -11,7 +11,6 @@ use Rattle.three.specs.Lists.{over}
 use Rattle.three.specs.Record.{bytes_for, pack, sound}
 use Rattle.three.specs.RecordInCode.{IsRecord}
 use Rattle.circuit.specs.declared.Counts.{Counts}
-use Rattle.circuit.specs.Circuit.{next, lamps}
 use Rattle.circuit.specs.Refusal.{Test, ◌or◌, refusal}
 use Rattle.circuit.specs.Table.{circuit_tests}
 use Rattle.circuit.specs.RulesInCode.{Legal}

@@ -1,4 +1,6 @@
 // The public tick (specification, 3.8).
+#![tactic(auto)]
+
 ghost use Rattle.std.specs.Prelude.{◌≡◌, ◌*◌, ◌<◌, ◌≤◌, length};
 ghost use Rattle.three.specs.Lists.{over};
 ghost use Rattle.three.specs.Record.{bytes_for, pack};

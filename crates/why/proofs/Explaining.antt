@@ -10,7 +10,7 @@ use Rattle.three.specs.Lists.{tabulate}
 use Rattle.three.specs.Value.{Three, unknown, low, both, decode, ternary}
 use Rattle.three.specs.Cube.{Cube, blank}
 use Rattle.three.specs.Record.{pair_at, unpack}
-use Rattle.three.proofs.Lists.{get_d_tabulate, tabulate_ext}
+use Rattle.three.proofs.Lists.{get_or_tabulate, tabulate_ext}
 use Rattle.three.proofs.Pack.{length_unpack}
 use Rattle.circuit.specs.declared.Counts.{Counts}
 use Rattle.circuit.specs.Circuit.{value, pass}
@@ -120,9 +120,9 @@ module _ (c : Counts) (words : List ℕ) (legal : Legal c words) (state : Cube) 
 
 -- ---- the fields that are stored
 
-get_d_unpack : (f : ℕ) (bytes : List ℕ) (i : ℕ) → i < f → get_or (unpack f bytes) i unknown ≡ decode (pair_at bytes i)
+get_or_unpack : (f : ℕ) (bytes : List ℕ) (i : ℕ) → i < f → get_or (unpack f bytes) i unknown ≡ decode (pair_at bytes i)
 unfolding unpack
-get_d_unpack f bytes i h = get_d_tabulate f _ i unknown h
+get_or_unpack f bytes i h = get_or_tabulate f _ i unknown h
 
 module _ (c : Counts) (words : List ℕ) (legal : Legal c words) (bytes table : List ℕ) (begins : Begins table (values_in (circuit_of c words) (unpack c.latches bytes)))
     (x : ℕ) (within : x ≤ top c) where
@@ -131,5 +131,5 @@ module _ (c : Counts) (words : List ℕ) (legal : Legal c words) (bytes table : 
   unfolding marked_fields forcing
   marked_forcing at e marks f =
       let state : Cube = unpack c.latches bytes in
-      tabulate_ext c.latches _ _ (λ i h. ap₂ (λ (v : Three) (t : Bool). blank v (not t)) (sym (get_d_unpack c.latches bytes i h)) (marked_forces c words legal state (length_unpack c.latches bytes) table begins x within marks (rw e at f) i))
+      tabulate_ext c.latches _ _ (λ i h. ap₂ (λ (v : Three) (t : Bool). blank v (not t)) (sym (get_or_unpack c.latches bytes i h)) (marked_forces c words legal state (length_unpack c.latches bytes) table begins x within marks (rw e at f) i))
       ∙ ap (λ n. tabulate n (λ i. blank (get_or state i unknown) (not (forces (circuit_of c words) state x i)))) (sym (length_unpack c.latches bytes))

@@ -9,7 +9,7 @@ use Rattle.three.specs.Value.{unknown, code, decode}
 use Rattle.three.specs.Cube.{blank}
 use Rattle.three.specs.Record.{pair_at}
 use Rattle.three.specs.RecordInCode.{IsRecord}
-use Rattle.three.proofs.Lists.{length_tabulate, get_d_tabulate, get_d_beyond}
+use Rattle.three.proofs.Lists.{length_tabulate, get_or_tabulate, get_or_beyond}
 use Rattle.three.proofs.Bytes.{code_decode}
 use Rattle.pass.proofs.Values.{field_small}
 use Rattle.why.specs.MarksInCode.{marked, marked_fields}
@@ -21,12 +21,12 @@ module _ (marks bytes : List ℕ) (first count : ℕ) where
 
   pub field_beyond : (i : ℕ) → count ≤ i → 0 ≡ code (get_or (marked_fields marks bytes first count) i unknown)
   unfolding marked_fields code
-  field_beyond i h = ap code (sym (get_d_beyond count _ i unknown h))
+  field_beyond i h = ap code (sym (get_or_beyond count _ i unknown h))
 
   module _ (i : ℕ) (h : i < count) where
     field_at : (t : Bool) → marked marks (first + i) ≡ t → get_or (marked_fields marks bytes first count) i unknown ≡ blank (decode (pair_at bytes i)) (not t)
     unfolding marked_fields
-    field_at t e = get_d_tabulate count _ i unknown h ∙ ap (λ (b : Bool). blank (decode (pair_at bytes i)) (not b)) e
+    field_at t e = get_or_tabulate count _ i unknown h ∙ ap (λ (b : Bool). blank (decode (pair_at bytes i)) (not b)) e
 
     pub field_blank : (get_or marks (first + i) 0 ≡ 1 → ⊥) → 0 ≡ code (get_or (marked_fields marks bytes first count) i unknown)
     unfolding marked code blank

@@ -1,4 +1,6 @@
 // Why a lamp has its value (specification, 5.13): the latches that force it, found by following what each gate's value comes from.
+#![tactic(auto)]
+
 ghost use Rattle.std.specs.Prelude.{◌≡◌, [], ◌∷◌, ◌+◌, ◌*◌, ◌-◌, ◌/◌, ◌%◌, ◌<◌, ◌≤◌, length, get_or};
 ghost use Rattle.three.specs.Lists.{over};
 ghost use Rattle.three.specs.Value.{unknown, low, high, code, ternary};

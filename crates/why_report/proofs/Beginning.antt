@@ -9,7 +9,7 @@ use lib.ListN.{length, get_or, replicate}
 use Rattle.three.specs.Value.{unknown, code, decode}
 use Rattle.three.specs.Cube.{Cube, alike}
 use Rattle.three.specs.Record.{pair_at, unpack}
-use Rattle.three.proofs.Lists.{get_d_tabulate}
+use Rattle.three.proofs.Lists.{get_or_tabulate}
 use Rattle.circuit.specs.declared.Counts.{Counts}
 use Rattle.circuit.specs.Circuit.{Circuit}
 use Rattle.circuit.specs.Refusal.{refusal}
@@ -24,7 +24,7 @@ use Rattle.cubes.specs.Buffer.{cube_in}
 use Rattle.cubes.specs.Chain.{ChainGiven, circuit_in, Chained}
 use Rattle.cubes.specs.Judge.{JudgeGiven, verdict_fields, cubes_in, Judged, circuit_in as judged_in}
 use Rattle.cubes.proofs.Buffered.{verdict_same, literals_counted}
-use Rattle.cubes.proofs.Given.{cubes-stand}
+use Rattle.cubes.proofs.Given.{cubes_stand}
 use Rattle.cubes.proofs.Chaining.{own_few, own_sound}
 use Rattle.cubes.proofs.Own.{relit_self, own_board, own_cube, own_accepted}
 use Rattle.cubes.proofs.Promising.{verdict_is}
@@ -53,7 +53,7 @@ module _ (counts : Counts) (table cubes : List ℕ) (n j : ℕ) (judgeable : Jud
     unfolding unpack verdict_fields judged_in cubes_in
     verdict_as =
         ap decode f
-        ∙ sym (get_d_tabulate (verdicts counts) (λ i. decode (pair_at verdict' i)) lamp unknown (omega (arith, is_lamp)))
+        ∙ sym (get_or_tabulate (verdicts counts) (λ i. decode (pair_at verdict' i)) lamp unknown (omega (arith, is_lamp)))
         ∙ ap (λ (fields : Cube). get_or fields lamp unknown) (verdict_is own q verdict' settled' judged (judged.answers ∙ sym (judgeable.judged verdict₀ settled₀ v s)))
 
     module _ {out out' : List ℕ} {r : ℕ} (put : Put out 0 (row Row.Lamp lamp (decode field)) out' r × (r ≤ length out)) where
@@ -101,7 +101,7 @@ module _ (counts : Counts) (table : List ℕ) (accepts : 0 ≡ refusal (circuit_
     pub judgeable : Judgeable counts table cubes' r.cubes r.back
     unfolding circuit_in
     judgeable = record {
-      are = record { accepts = accepts; stand = cubes-stand counts cubes' r.cubes (own_few given r cubes' chained stopped) (own_sound given r cubes' chained stopped) };
+      are = record { accepts = accepts; stand = cubes_stand counts cubes' r.cubes (own_few given r cubes' chained stopped) (own_sound given r cubes' chained stopped) };
       judged = λ verdict settled v s.
           own_accepted given r cubes' chained stopped counts table (own_board given r cubes' chained stopped) (relit_self (circuit_in given)) verdict settled
           (omega (arith, (legal counts table accepts).bounded, v)) (omega (arith, (legal counts table accepts).bounded, s));

@@ -9,7 +9,7 @@ use Rattle.three.specs.Lists.{over}
 use Rattle.three.specs.Cube.{Cube, known_fields}
 use Rattle.three.specs.Record.{bytes_for, pack}
 use Rattle.circuit.specs.declared.Counts.{Counts}
-use Rattle.circuit.specs.Refusal.{Test, ◌or◌, refusal, left_by}
+use Rattle.circuit.specs.Refusal.{◌or◌, refusal, left_by}
 use Rattle.circuit.specs.Table.{verdicts, circuit_of, board_tests}
 use Rattle.circuit.proofs.Refusals.{refusal_alike, refused_old, accepted_new}
 use Rattle.circuit.proofs.Legality.{board_numbered}

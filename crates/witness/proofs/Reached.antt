@@ -6,7 +6,7 @@ use Prim.Native.Nat.{suc, ◌+◌}
 use Rattle.three.specs.Lists.{tabulate, every, adjust}
 use Rattle.three.specs.Value.{code, both, inverse, ternary}
 use Rattle.three.specs.Cube.{alike, allows, subsumes, blank}
-use Rattle.circuit.specs.Circuit.{signed, value, pass, settle, next, readings}
+use Rattle.circuit.specs.Circuit.{signed, value, pass, settle, readings}
 use Rattle.cubes.specs.Run.{hold, differing, due, switches_unknown, next_cube, some_low, blocked, start_field, start, reached, widened, store, stage, cube_at, search, back, run, stepped, resets}
 use Rattle.witness.specs.Ring.{following, ring}
 use Rattle.cubes.specs.OutcomesInCode.{has_stopped}

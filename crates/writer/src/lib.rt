@@ -1,10 +1,12 @@
 // The writer of a circuit's text (specification, 4.10). Every `put` answers the position behind the bytes that it writes.
+#![tactic(auto)]
+
 ghost use Rattle.std.specs.Prelude.{◌≡◌, ℕ, ◌≤◌, ◌<◌, ◌+◌, ◌*◌, length, ◌++◌, [], ◌∷◌};
 ghost use Rattle.circuit.specs.RulesInCode.{Bounded};
 ghost use Rattle.circuit.specs.Table.{width};
 ghost use Rattle.text.specs.Decimal.{decimal};
 ghost use Rattle.text.specs.Line.{line_text};
-ghost use Rattle.text.specs.Text.{magic as plainMagic, further_numbers, head_numbers, shown, line_of, write_text};
+ghost use Rattle.text.specs.Text.{magic as plain_magic, further_numbers, head_numbers, shown, line_of, write_text};
 ghost use Rattle.text.specs.Calls.{Writing};
 ghost use Rattle.text.specs.KindsInCode.{coded};
 ghost use Rattle.putting.specs.PutInCode.{Put};
@@ -201,8 +203,8 @@ pub fn put_first_line(text: &mut [u8], magic: &[u8; 4], counts: Counts) -> usize
 }
 
 fn put_header(text: &mut [u8], counts: Counts) -> usize
-    requires { Bounded counts × (length (plainMagic ++ line_text (head_numbers counts)) ≤ length text.old) }
-    ensures { Put text.old 0 (plainMagic ++ line_text (head_numbers counts)) text.new result }
+    requires { Bounded counts × (length (plain_magic ++ line_text (head_numbers counts)) ≤ length text.old) }
+    ensures { Put text.old 0 (plain_magic ++ line_text (head_numbers counts)) text.new result }
 {
     let magic = MAGIC;
     put_first_line(text, &magic, counts)

@@ -1,0 +1,11 @@
+-- `binary_reader::fill_gates` meets its contract: two words for each gate, as `Filling` says. Assumes nothing.
+use Rattle.circuit.specs.Table.{gate, several}
+use Rattle.reader.specs.ReaderInCode.{stand, KindFillable}
+use Rattle.reader.proofs.Filling.{Filling}
+use Rattle.binary.specs.Binary.{circuit_rows}
+use Rattle.binary_reader.proofs.fill_gates.Given as goal
+
+abbrev pub invariant-loop-i : goal.invariant-loop-i
+invariant-loop-i l =
+    (f : KindFillable circuit_rows l.text gate l.own l.count (record { at = l.initial.at; word = l.initial.word }) l.initial.table)
+    → Filling (circuit_rows f.counts) l.text gate l.own l.count f.behind (stand (several gate l.own l.count f.behind) l.initial.at l.initial.word l.initial.table) l.at l.word l.i l.table

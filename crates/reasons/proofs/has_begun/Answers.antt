@@ -1,0 +1,6 @@
+-- `reasons::has_begun` meets its contract: a latch that is known begins. Assumes nothing.
+use Rattle.reasons.proofs.Lines.{begun_by}
+use Rattle.reasons.proofs.has_begun.Goals as goal
+
+pub returns : goal.returns
+returns c = begun_by _ c.if-begun.false _
