@@ -1,6 +1,8 @@
 // The bench circuits (specification, 9): each text is read and run by the code, and its line shows what came of it.
+#![tactic(auto)]
+
 use circuit::Counts;
-use libc::STDOUT_FILENO;
+use std::io::Stdout;
 
 const T: [u8; 20] = *b"aag 1 0 1 1 0\n2 3\n2\n";
 
@@ -20,34 +22,31 @@ const U: [u8; 26] = *b"aag 2 0 2 1 0\n2 0 2\n4 2\n4\n";
 // What no call may touch keeps this byte.
 const UNTOUCHED: u8 = 0xFF;
 
-fn say(text: &[u8]) {
-    io::write_all(STDOUT_FILENO, text);
+fn say(output: Stdout, text: &[u8]) {
+    let _ = output.write_all(text);
 }
 
 // A name, and the number behind it.
-fn say_number(name: &[u8], number: u64) {
-    say(name);
-    io::print_decimal(STDOUT_FILENO, number);
-}
-
-fn wide(byte: u8) -> u64 {
-    byte as u64
+fn say_number(output: Stdout, name: &[u8], number: u64) {
+    say(output, name);
+    let _ = output.print(number);
 }
 
 // A space, and the byte at a position in hex where the buffer has it.
-fn say_byte(bytes: &[u8], at: usize) {
+fn say_byte(output: Stdout, bytes: &[u8], at: usize) {
     if at < bytes.len() {
-        say(b" ");
-        io::print_hex(STDOUT_FILENO, wide(bytes[at]), 2);
+        say(output, b" ");
+        let byte = bytes[at];
+        let _ = print!(output; "{byte:02x}");
     }
 }
 
-fn say_five(bytes: &[u8]) {
-    say_byte(bytes, 0);
-    say_byte(bytes, 1);
-    say_byte(bytes, 2);
-    say_byte(bytes, 3);
-    say_byte(bytes, 4);
+fn say_five(output: Stdout, bytes: &[u8]) {
+    say_byte(output, bytes, 0);
+    say_byte(output, bytes, 1);
+    say_byte(output, bytes, 2);
+    say_byte(output, bytes, 3);
+    say_byte(output, bytes, 4);
 }
 
 // What came of a text, its chain and its judgement: the number is that of the first call that refuses.
@@ -116,6 +115,7 @@ fn read_and_run(
 
 // The answer, the first five bytes of the cube buffer, and the first of the verdict and of the settled record.
 fn say_line(
+    output: Stdout,
     name: &[u8],
     w: usize,
     answer: RunAnswer,
@@ -123,68 +123,76 @@ fn say_line(
     verdict: &[u8],
     settled: &[u8],
 ) {
-    say(name);
-    say_number(b" w ", w as u64);
-    say_number(b": number ", answer.number as u64);
-    say_number(b" n ", answer.cubes as u64);
-    say_number(b" j ", answer.back as u64);
-    say_number(b" s ", answer.settled as u64);
-    say(b" cubes");
-    say_five(cubes);
-    say(b" verdict");
-    say_byte(verdict, 0);
-    say(b" settled");
-    say_byte(settled, 0);
-    say(b"\n");
+    say(output, name);
+    say_number(output, b" w ", w as u64);
+    say_number(output, b": number ", answer.number as u64);
+    say_number(output, b" n ", answer.cubes as u64);
+    say_number(output, b" j ", answer.back as u64);
+    say_number(output, b" s ", answer.settled as u64);
+    say(output, b" cubes");
+    say_five(output, cubes);
+    say(output, b" verdict");
+    say_byte(output, verdict, 0);
+    say(output, b" settled");
+    say_byte(output, settled, 0);
+    say(output, b"\n");
 }
 
 // The line of a case with this cube buffer.
-fn show(name: &[u8], text: &[u8], w: usize, cubes: &mut [u8]) {
+fn show(output: Stdout, name: &[u8], text: &[u8], w: usize, cubes: &mut [u8]) {
     let mut verdict = [UNTOUCHED; 2];
     let mut settled = [UNTOUCHED; 2];
     let answer = read_and_run(text, w, cubes, &mut verdict, &mut settled);
-    say_line(name, w, answer, cubes, &verdict, &settled);
+    say_line(output, name, w, answer, cubes, &verdict, &settled);
 }
 
 // A case whose cube buffer the document does not name.
-fn ample(name: &[u8], text: &[u8], w: usize) {
+fn ample(output: Stdout, name: &[u8], text: &[u8], w: usize) {
     let mut cubes = [UNTOUCHED; 100];
-    show(name, text, w, &mut cubes);
+    show(output, name, text, w, &mut cubes);
 }
 
-fn one_byte(name: &[u8], text: &[u8], w: usize) {
+fn one_byte(output: Stdout, name: &[u8], text: &[u8], w: usize) {
     let mut cubes = [UNTOUCHED; 1];
-    show(name, text, w, &mut cubes);
+    show(output, name, text, w, &mut cubes);
 }
 
-fn main() {
-    ample(b"T", &T, 0);
-    ample(b"T", &T, 1);
-    ample(b"H", &H, 0);
-    ample(b"K", &K, 0);
-    ample(b"S", &S, 0);
-    ample(b"S", &S, 1);
-    ample(b"E", &E, 0);
-    ample(b"E", &E, 1);
-    one_byte(b"E, one byte,", &E, 0);
-    ample(b"C", &C, 0);
-    ample(b"C", &C, 2);
-    ample(b"C", &C, 3);
-    ample(b"no counts", b"aag 0 0 0 0 0\n", 0);
-    ample(b"no start value", b"aag 1 0 1 0 0\n2 2 2\n", 0);
-    ample(b"U", &U, 0);
-    ample(b"ends", b"aag 1 0 1 1 0 1 1\n2 1\n2\n3\n3\n", 0);
-    ample(b"ends at once", b"aag 1 0 1 1 0 1 1\n2 1 1\n2\n3\n3\n", 0);
+fn main(rt: HostRuntime) {
+    let output = rt.stdout();
+    ample(output, b"T", &T, 0);
+    ample(output, b"T", &T, 1);
+    ample(output, b"H", &H, 0);
+    ample(output, b"K", &K, 0);
+    ample(output, b"S", &S, 0);
+    ample(output, b"S", &S, 1);
+    ample(output, b"E", &E, 0);
+    ample(output, b"E", &E, 1);
+    one_byte(output, b"E, one byte,", &E, 0);
+    ample(output, b"C", &C, 0);
+    ample(output, b"C", &C, 2);
+    ample(output, b"C", &C, 3);
+    ample(output, b"no counts", b"aag 0 0 0 0 0\n", 0);
+    ample(output, b"no start value", b"aag 1 0 1 0 0\n2 2 2\n", 0);
+    ample(output, b"U", &U, 0);
+    ample(output, b"ends", b"aag 1 0 1 1 0 1 1\n2 1\n2\n3\n3\n", 0);
     ample(
+        output,
+        b"ends at once",
+        b"aag 1 0 1 1 0 1 1\n2 1 1\n2\n3\n3\n",
+        0,
+    );
+    ample(
+        output,
         b"ends from any start",
         b"aag 1 0 1 1 0 1 1\n2 1 2\n2\n3\n3\n",
         0,
     );
     ample(
+        output,
         b"unknown constraint",
         b"aag 1 0 1 1 0 0 1\n2 2 2\n2\n3\n",
         0,
     );
-    ample(b"operand 4", b"aag 2 1 0 0 1\n2\n4 4 2\n", 0);
-    ample(b"operand 6", b"aag 2 1 0 0 1\n2\n4 6 2\n", 0);
+    ample(output, b"operand 4", b"aag 2 1 0 0 1\n2\n4 4 2\n", 0);
+    ample(output, b"operand 6", b"aag 2 1 0 0 1\n2\n4 6 2\n", 0);
 }

@@ -10,8 +10,11 @@
 //   merge FIELDS A b.. B b.. MERGED                            the count of fields, two records; the result's length
 //
 // Crate vectors says the rest.
+#![tactic(auto)]
+
 use circuit::Counts;
 use cubes::ChainAnswer;
+use std::io::Stdout;
 use vectors::say::{say, say_bytes, say_number};
 use vectors::{
     UNTOUCHED, bytes_of, bytes_within, circuit_at, not_a_vector, parts, say_answer, too_large,
@@ -21,6 +24,7 @@ use vectors::{
 // ---- tick
 
 fn show_tick(
+    output: Stdout,
     name: &[u8],
     counts: Counts,
     table: &[u16],
@@ -30,13 +34,14 @@ fn show_tick(
     lamps: &mut [u8],
 ) {
     let number = tick::tick(counts, table, state, switches, next, lamps);
-    say_answer(name, number);
-    say_bytes(b"; next", next);
-    say_bytes(b"; lamps", lamps);
-    say(b"\n");
+    say_answer(output, name, number);
+    say_bytes(output, b"; next", next);
+    say_bytes(output, b"; lamps", lamps);
+    say(output, b"\n");
 }
 
 fn tick_lent(
+    output: Stdout,
     name: &[u8],
     counts: Counts,
     table: &[u16],
@@ -50,10 +55,11 @@ fn tick_lent(
     let next_lent = bytes_within(next_bytes, &next);
     let lamps_lent = bytes_within(lamps_bytes, &lamps);
     if next_lent < next_bytes || lamps_lent < lamps_bytes {
-        too_large();
+        too_large(output);
         return;
     }
     show_tick(
+        output,
         name,
         counts,
         table,
@@ -73,6 +79,7 @@ struct TickGiven {
 }
 
 fn tick_given(
+    output: Stdout,
     name: &[u8],
     counts: Counts,
     given: TickGiven,
@@ -86,10 +93,11 @@ fn tick_given(
     let state_bytes = bytes_within(given.state, state);
     let switches_bytes = bytes_within(given.switches, switches);
     if words < given.words || state_bytes < given.state || switches_bytes < given.switches {
-        too_large();
+        too_large(output);
         return;
     }
     tick_lent(
+        output,
         name,
         counts,
         &table[..words],
@@ -100,7 +108,7 @@ fn tick_given(
     );
 }
 
-fn tick_vector(line: &[u8], name: &[u8]) {
+fn tick_vector(output: Stdout, line: &[u8], name: &[u8]) {
     let mut table = words_of(0);
     let mut state = bytes_of(0);
     let mut switches = bytes_of(0);
@@ -112,7 +120,7 @@ fn tick_vector(line: &[u8], name: &[u8]) {
     let next_bytes = parts::next(line, behind_switches);
     let lamps_bytes = parts::next(line, next_bytes);
     if !parts::ends(line, lamps_bytes) {
-        not_a_vector();
+        not_a_vector(output);
         return;
     }
     let given = TickGiven {
@@ -122,6 +130,7 @@ fn tick_vector(line: &[u8], name: &[u8]) {
     };
     let counts = circuit.counts;
     tick_given(
+        output,
         name,
         counts,
         given,
@@ -148,16 +157,24 @@ fn chain_as(chaining: Chaining, counts: Counts, table: &[u16], cubes: &mut [u8])
     }
 }
 
-fn show_chain(name: &[u8], chaining: Chaining, counts: Counts, table: &[u16], cubes: &mut [u8]) {
+fn show_chain(
+    output: Stdout,
+    name: &[u8],
+    chaining: Chaining,
+    counts: Counts,
+    table: &[u16],
+    cubes: &mut [u8],
+) {
     let answer = chain_as(chaining, counts, table, cubes);
-    say_answer(name, answer.number);
-    say_number(b" n ", answer.cubes);
-    say_number(b" j ", answer.back);
-    say_bytes(b"; cubes", cubes);
-    say(b"\n");
+    say_answer(output, name, answer.number);
+    say_number(output, b" n ", answer.cubes);
+    say_number(output, b" j ", answer.back);
+    say_bytes(output, b"; cubes", cubes);
+    say(output, b"\n");
 }
 
 fn chain_given(
+    output: Stdout,
     name: &[u8],
     chaining: Chaining,
     counts: Counts,
@@ -169,10 +186,11 @@ fn chain_given(
     let given = words_within(words, table);
     let cubes_bytes = bytes_within(lent, &cubes);
     if given < words || cubes_bytes < lent {
-        too_large();
+        too_large(output);
         return;
     }
     show_chain(
+        output,
         name,
         chaining,
         counts,
@@ -181,30 +199,39 @@ fn chain_given(
     );
 }
 
-fn chain_vector(line: &[u8], name: &[u8]) {
+fn chain_vector(output: Stdout, line: &[u8], name: &[u8]) {
     let mut table = words_of(0);
     let circuit = circuit_at(line, name.len(), &mut table);
     let w = parts::next(line, circuit.behind);
     let cubes = parts::next(line, w);
     if !parts::ends(line, cubes) {
-        not_a_vector();
+        not_a_vector(output);
         return;
     }
     let counts = circuit.counts;
     let chaining = Chaining::Widened(w.value);
-    chain_given(name, chaining, counts, &table, circuit.words, cubes.value);
+    chain_given(
+        output,
+        name,
+        chaining,
+        counts,
+        &table,
+        circuit.words,
+        cubes.value,
+    );
 }
 
-fn chain_beginners_vector(line: &[u8], name: &[u8]) {
+fn chain_beginners_vector(output: Stdout, line: &[u8], name: &[u8]) {
     let mut table = words_of(0);
     let circuit = circuit_at(line, name.len(), &mut table);
     let cubes = parts::next(line, circuit.behind);
     if !parts::ends(line, cubes) {
-        not_a_vector();
+        not_a_vector(output);
         return;
     }
     let counts = circuit.counts;
     chain_given(
+        output,
         name,
         Chaining::Beginners,
         counts,
@@ -217,6 +244,7 @@ fn chain_beginners_vector(line: &[u8], name: &[u8]) {
 // ---- judge
 
 fn show_judge(
+    output: Stdout,
     name: &[u8],
     counts: Counts,
     table: &[u16],
@@ -227,11 +255,11 @@ fn show_judge(
     settled: &mut [u8],
 ) {
     let answer = judged::judge(counts, table, cubes, n, j, verdict, settled);
-    say_answer(name, answer.number);
-    say_number(b" s ", answer.settled);
-    say_bytes(b"; verdict", verdict);
-    say_bytes(b"; settled", settled);
-    say(b"\n");
+    say_answer(output, name, answer.number);
+    say_number(output, b" s ", answer.settled);
+    say_bytes(output, b"; verdict", verdict);
+    say_bytes(output, b"; settled", settled);
+    say(output, b"\n");
 }
 
 // What the judge is given and lent, by its length, and the numbers.
@@ -245,16 +273,24 @@ struct JudgeGiven {
     settled: usize,
 }
 
-fn judge_lent(name: &[u8], counts: Counts, given: JudgeGiven, table: &[u16], cubes: &[u8]) {
+fn judge_lent(
+    output: Stdout,
+    name: &[u8],
+    counts: Counts,
+    given: JudgeGiven,
+    table: &[u16],
+    cubes: &[u8],
+) {
     let mut verdict = bytes_of(UNTOUCHED);
     let mut settled = bytes_of(UNTOUCHED);
     let verdict_bytes = bytes_within(given.verdict, &verdict);
     let settled_bytes = bytes_within(given.settled, &settled);
     if verdict_bytes < given.verdict || settled_bytes < given.settled {
-        too_large();
+        too_large(output);
         return;
     }
     show_judge(
+        output,
         name,
         counts,
         table,
@@ -266,17 +302,31 @@ fn judge_lent(name: &[u8], counts: Counts, given: JudgeGiven, table: &[u16], cub
     );
 }
 
-fn judge_given(name: &[u8], counts: Counts, given: JudgeGiven, table: &[u16], cubes: &[u8]) {
+fn judge_given(
+    output: Stdout,
+    name: &[u8],
+    counts: Counts,
+    given: JudgeGiven,
+    table: &[u16],
+    cubes: &[u8],
+) {
     let words = words_within(given.words, table);
     let cubes_bytes = bytes_within(given.cubes, cubes);
     if words < given.words || cubes_bytes < given.cubes {
-        too_large();
+        too_large(output);
         return;
     }
-    judge_lent(name, counts, given, &table[..words], &cubes[..cubes_bytes]);
+    judge_lent(
+        output,
+        name,
+        counts,
+        given,
+        &table[..words],
+        &cubes[..cubes_bytes],
+    );
 }
 
-fn judge_vector(line: &[u8], name: &[u8]) {
+fn judge_vector(output: Stdout, line: &[u8], name: &[u8]) {
     let mut table = words_of(0);
     let mut cubes = bytes_of(0);
     let circuit = circuit_at(line, name.len(), &mut table);
@@ -287,7 +337,7 @@ fn judge_vector(line: &[u8], name: &[u8]) {
     let verdict = parts::next(line, j);
     let settled = parts::next(line, verdict);
     if !parts::ends(line, settled) {
-        not_a_vector();
+        not_a_vector(output);
         return;
     }
     let given = JudgeGiven {
@@ -299,12 +349,13 @@ fn judge_vector(line: &[u8], name: &[u8]) {
         settled: settled.value,
     };
     let counts = circuit.counts;
-    judge_given(name, counts, given, &table, &cubes);
+    judge_given(output, name, counts, given, &table, &cubes);
 }
 
 // ---- cover
 
 fn show_cover(
+    output: Stdout,
     name: &[u8],
     counts: Counts,
     table: &[u16],
@@ -313,10 +364,10 @@ fn show_cover(
     verdict: &mut [u8],
 ) {
     let answer = sent::cover(counts, table, cubes, n, verdict);
-    say_answer(name, answer.number);
-    say_number(b" cube ", answer.cube);
-    say_bytes(b"; verdict", verdict);
-    say(b"\n");
+    say_answer(output, name, answer.number);
+    say_number(output, b" cube ", answer.cube);
+    say_bytes(output, b"; verdict", verdict);
+    say(output, b"\n");
 }
 
 // What a cover is given and lent, by its length, and the number of cubes.
@@ -328,16 +379,24 @@ struct CoverGiven {
     verdict: usize,
 }
 
-fn cover_given(name: &[u8], counts: Counts, given: CoverGiven, table: &[u16], cubes: &[u8]) {
+fn cover_given(
+    output: Stdout,
+    name: &[u8],
+    counts: Counts,
+    given: CoverGiven,
+    table: &[u16],
+    cubes: &[u8],
+) {
     let mut verdict = bytes_of(UNTOUCHED);
     let words = words_within(given.words, table);
     let cubes_bytes = bytes_within(given.cubes, cubes);
     let verdict_bytes = bytes_within(given.verdict, &verdict);
     if words < given.words || cubes_bytes < given.cubes || verdict_bytes < given.verdict {
-        too_large();
+        too_large(output);
         return;
     }
     show_cover(
+        output,
         name,
         counts,
         &table[..words],
@@ -347,7 +406,7 @@ fn cover_given(name: &[u8], counts: Counts, given: CoverGiven, table: &[u16], cu
     );
 }
 
-fn cover_vector(line: &[u8], name: &[u8]) {
+fn cover_vector(output: Stdout, line: &[u8], name: &[u8]) {
     let mut table = words_of(0);
     let mut cubes = bytes_of(0);
     let circuit = circuit_at(line, name.len(), &mut table);
@@ -356,7 +415,7 @@ fn cover_vector(line: &[u8], name: &[u8]) {
     let n = parts::next(line, behind_cubes);
     let verdict = parts::next(line, n);
     if !parts::ends(line, verdict) {
-        not_a_vector();
+        not_a_vector(output);
         return;
     }
     let given = CoverGiven {
@@ -366,16 +425,24 @@ fn cover_vector(line: &[u8], name: &[u8]) {
         verdict: verdict.value,
     };
     let counts = circuit.counts;
-    cover_given(name, counts, given, &table, &cubes);
+    cover_given(output, name, counts, given, &table, &cubes);
 }
 
 // ---- why
 
-fn show_why(name: &[u8], counts: Counts, table: &[u16], state: &[u8], lamp: usize, why: &mut [u8]) {
+fn show_why(
+    output: Stdout,
+    name: &[u8],
+    counts: Counts,
+    table: &[u16],
+    state: &[u8],
+    lamp: usize,
+    why: &mut [u8],
+) {
     let number = why::why(counts, table, state, lamp, why);
-    say_answer(name, number);
-    say_bytes(b"; why", why);
-    say(b"\n");
+    say_answer(output, name, number);
+    say_bytes(output, b"; why", why);
+    say(output, b"\n");
 }
 
 // What is given and lent, by its length, and the lamp's number.
@@ -387,16 +454,24 @@ struct WhyGiven {
     why: usize,
 }
 
-fn why_given(name: &[u8], counts: Counts, given: WhyGiven, table: &[u16], state: &[u8]) {
+fn why_given(
+    output: Stdout,
+    name: &[u8],
+    counts: Counts,
+    given: WhyGiven,
+    table: &[u16],
+    state: &[u8],
+) {
     let mut why = bytes_of(UNTOUCHED);
     let words = words_within(given.words, table);
     let state_bytes = bytes_within(given.state, state);
     let why_bytes = bytes_within(given.why, &why);
     if words < given.words || state_bytes < given.state || why_bytes < given.why {
-        too_large();
+        too_large(output);
         return;
     }
     show_why(
+        output,
         name,
         counts,
         &table[..words],
@@ -406,7 +481,7 @@ fn why_given(name: &[u8], counts: Counts, given: WhyGiven, table: &[u16], state:
     );
 }
 
-fn why_vector(line: &[u8], name: &[u8]) {
+fn why_vector(output: Stdout, line: &[u8], name: &[u8]) {
     let mut table = words_of(0);
     let mut state = bytes_of(0);
     let circuit = circuit_at(line, name.len(), &mut table);
@@ -415,7 +490,7 @@ fn why_vector(line: &[u8], name: &[u8]) {
     let lamp = parts::next(line, behind_state);
     let why = parts::next(line, lamp);
     if !parts::ends(line, why) {
-        not_a_vector();
+        not_a_vector(output);
         return;
     }
     let given = WhyGiven {
@@ -425,16 +500,16 @@ fn why_vector(line: &[u8], name: &[u8]) {
         why: why.value,
     };
     let counts = circuit.counts;
-    why_given(name, counts, given, &table, &state);
+    why_given(output, name, counts, given, &table, &state);
 }
 
 // ---- merge
 
-fn show_merge(name: &[u8], fields: usize, a: &[u8], b: &[u8], merged: &mut [u8]) {
+fn show_merge(output: Stdout, name: &[u8], fields: usize, a: &[u8], b: &[u8], merged: &mut [u8]) {
     let number = merging::merge(fields, a, b, merged);
-    say_answer(name, number);
-    say_bytes(b"; merged", merged);
-    say(b"\n");
+    say_answer(output, name, number);
+    say_bytes(output, b"; merged", merged);
+    say(output, b"\n");
 }
 
 // What is given and lent, by its length, and the count of fields.
@@ -446,16 +521,17 @@ struct MergeGiven {
     merged: usize,
 }
 
-fn merge_given(name: &[u8], given: MergeGiven, a: &[u8], b: &[u8]) {
+fn merge_given(output: Stdout, name: &[u8], given: MergeGiven, a: &[u8], b: &[u8]) {
     let mut merged = bytes_of(UNTOUCHED);
     let a_bytes = bytes_within(given.a, a);
     let b_bytes = bytes_within(given.b, b);
     let merged_bytes = bytes_within(given.merged, &merged);
     if a_bytes < given.a || b_bytes < given.b || merged_bytes < given.merged {
-        too_large();
+        too_large(output);
         return;
     }
     show_merge(
+        output,
         name,
         given.fields,
         &a[..a_bytes],
@@ -464,7 +540,7 @@ fn merge_given(name: &[u8], given: MergeGiven, a: &[u8], b: &[u8]) {
     );
 }
 
-fn merge_vector(line: &[u8], name: &[u8]) {
+fn merge_vector(output: Stdout, line: &[u8], name: &[u8]) {
     let mut a = bytes_of(0);
     let mut b = bytes_of(0);
     let fields = parts::number(line, name.len());
@@ -474,7 +550,7 @@ fn merge_vector(line: &[u8], name: &[u8]) {
     let behind_b = parts::bytes(line, b_bytes, &mut b);
     let merged = parts::next(line, behind_b);
     if !parts::ends(line, merged) {
-        not_a_vector();
+        not_a_vector(output);
         return;
     }
     let given = MergeGiven {
@@ -483,45 +559,46 @@ fn merge_vector(line: &[u8], name: &[u8]) {
         b: b_bytes.value,
         merged: merged.value,
     };
-    merge_given(name, given, &a, &b);
+    merge_given(output, name, given, &a, &b);
 }
 
 // ---- the list
 
-fn answer(line: &[u8]) {
+fn answer(output: Stdout, line: &[u8]) {
     if parts::opens(line, b"#") {
-        say(line);
-        say(b"\n");
+        say(output, line);
+        say(output, b"\n");
     } else if parts::opens(line, b"tick ") {
-        tick_vector(line, b"tick ");
+        tick_vector(output, line, b"tick ");
     } else if parts::opens(line, b"chain ") {
-        chain_vector(line, b"chain ");
+        chain_vector(output, line, b"chain ");
     } else if parts::opens(line, b"chainbeginners ") {
-        chain_beginners_vector(line, b"chainbeginners ");
+        chain_beginners_vector(output, line, b"chainbeginners ");
     } else if parts::opens(line, b"judge ") {
-        judge_vector(line, b"judge ");
+        judge_vector(output, line, b"judge ");
     } else if parts::opens(line, b"cover ") {
-        cover_vector(line, b"cover ");
+        cover_vector(output, line, b"cover ");
     } else if parts::opens(line, b"why ") {
-        why_vector(line, b"why ");
+        why_vector(output, line, b"why ");
     } else if parts::opens(line, b"merge ") {
-        merge_vector(line, b"merge ");
+        merge_vector(output, line, b"merge ");
     } else {
-        not_a_vector();
+        not_a_vector(output);
     }
 }
 
-fn replay(list: &[u8]) {
+fn replay(output: Stdout, list: &[u8]) {
     let mut at = 0;
     while at < list.len() {
         let end = parts::line_end(list, at);
-        answer(&list[at..end]);
+        answer(output, &list[at..end]);
         at = end + 1;
     }
 }
 
-fn main() {
+fn main(rt: HostRuntime) {
+    let output = rt.stdout();
     let mut list = vectors::room_for_list();
-    let got = vectors::take_list(&mut list);
-    replay(&list[..got]);
+    let got = vectors::take_list(rt.stdin(), output, &mut list);
+    replay(output, &list[..got]);
 }

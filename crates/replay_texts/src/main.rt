@@ -9,8 +9,11 @@
 //   writebinary COUNTS WORDS w.. BYTES   as `write`, for the binary form
 //
 // In TEXT `/` stands for byte 10, and `\hh` for any byte; what goes beyond BYTES is cut. Crate vectors says the rest.
+#![tactic(auto)]
+
 use circuit::Counts;
 use reader::ReadAnswer;
+use std::io::Stdout;
 use vectors::say::{say, say_bytes, say_number, say_words};
 use vectors::{
     UNTOUCHED, UNTOUCHED_WORD, bytes_of, bytes_within, circuit_at, not_a_vector, parts, say_answer,
@@ -35,61 +38,76 @@ fn read_as(reading: Reading, text: &[u8], table: &mut [u16]) -> ReadAnswer {
     }
 }
 
-fn show_read(name: &[u8], reading: Reading, text: &[u8], table: &mut [u16]) {
+fn show_read(output: Stdout, name: &[u8], reading: Reading, text: &[u8], table: &mut [u16]) {
     let answer = read_as(reading, text, table);
     let counts = answer.counts;
-    say_answer(name, answer.number);
-    say_counts(counts);
-    say_words(b"; table", table);
-    say(b"\n");
+    say_answer(output, name, answer.number);
+    say_counts(output, counts);
+    say_words(output, b"; table", table);
+    say(output, b"\n");
 }
 
-fn read_lent(name: &[u8], reading: Reading, text: &[u8], bytes: usize, words: usize) {
+fn read_lent(
+    output: Stdout,
+    name: &[u8],
+    reading: Reading,
+    text: &[u8],
+    bytes: usize,
+    words: usize,
+) {
     let mut table = words_of(UNTOUCHED_WORD);
     let given = bytes_within(bytes, text);
     let lent = words_within(words, &table);
     if given < bytes || lent < words {
-        too_large();
+        too_large(output);
         return;
     }
-    show_read(name, reading, &text[..given], &mut table[..lent]);
+    show_read(output, name, reading, &text[..given], &mut table[..lent]);
 }
 
-fn read_vector(line: &[u8], name: &[u8], reading: Reading) {
+fn read_vector(output: Stdout, line: &[u8], name: &[u8], reading: Reading) {
     let words = parts::number(line, name.len());
     let bytes = parts::next(line, words);
     let mut text = bytes_of(b'x');
     if !parts::text(line, bytes, &mut text) {
-        not_a_vector();
+        not_a_vector(output);
         return;
     }
-    read_lent(name, reading, &text, bytes.value, words.value);
+    read_lent(output, name, reading, &text, bytes.value, words.value);
 }
 
 // ---- any
 
-fn show_any(name: &[u8], text: &[u8], table: &mut [u16], renumbered: &mut [u16]) {
+fn show_any(output: Stdout, name: &[u8], text: &[u8], table: &mut [u16], renumbered: &mut [u16]) {
     let answer = anyorder::read_any(text, table, renumbered);
     let counts = answer.counts;
-    say_answer(name, answer.number);
-    say_counts(counts);
-    say_number(b" M ", answer.variables);
-    say_words(b"; table", table);
-    say_words(b"; list", renumbered);
-    say(b"\n");
+    say_answer(output, name, answer.number);
+    say_counts(output, counts);
+    say_number(output, b" M ", answer.variables);
+    say_words(output, b"; table", table);
+    say_words(output, b"; list", renumbered);
+    say(output, b"\n");
 }
 
-fn any_lent(name: &[u8], text: &[u8], bytes: usize, table_words: usize, list_words: usize) {
+fn any_lent(
+    output: Stdout,
+    name: &[u8],
+    text: &[u8],
+    bytes: usize,
+    table_words: usize,
+    list_words: usize,
+) {
     let mut table = words_of(UNTOUCHED_WORD);
     let mut renumbered = words_of(UNTOUCHED_WORD);
     let given = bytes_within(bytes, text);
     let table_lent = words_within(table_words, &table);
     let list_lent = words_within(list_words, &renumbered);
     if given < bytes || table_lent < table_words || list_lent < list_words {
-        too_large();
+        too_large(output);
         return;
     }
     show_any(
+        output,
         name,
         &text[..given],
         &mut table[..table_lent],
@@ -97,16 +115,17 @@ fn any_lent(name: &[u8], text: &[u8], bytes: usize, table_words: usize, list_wor
     );
 }
 
-fn any_vector(line: &[u8], name: &[u8]) {
+fn any_vector(output: Stdout, line: &[u8], name: &[u8]) {
     let table_words = parts::number(line, name.len());
     let list_words = parts::next(line, table_words);
     let bytes = parts::next(line, list_words);
     let mut text = bytes_of(b'x');
     if !parts::text(line, bytes, &mut text) {
-        not_a_vector();
+        not_a_vector(output);
         return;
     }
     any_lent(
+        output,
         name,
         &text,
         bytes.value,
@@ -130,15 +149,23 @@ fn write_as(writing: Writing, counts: Counts, table: &[u16], text: &mut [u8]) ->
     }
 }
 
-fn show_write(name: &[u8], writing: Writing, counts: Counts, table: &[u16], text: &mut [u8]) {
+fn show_write(
+    output: Stdout,
+    name: &[u8],
+    writing: Writing,
+    counts: Counts,
+    table: &[u16],
+    text: &mut [u8],
+) {
     let answer = write_as(writing, counts, table, text);
-    say_answer(name, answer.number);
-    say_number(b" bytes ", answer.bytes);
-    say_bytes(b"; text", text);
-    say(b"\n");
+    say_answer(output, name, answer.number);
+    say_number(output, b" bytes ", answer.bytes);
+    say_bytes(output, b"; text", text);
+    say(output, b"\n");
 }
 
 fn write_lent(
+    output: Stdout,
     name: &[u8],
     writing: Writing,
     counts: Counts,
@@ -150,58 +177,74 @@ fn write_lent(
     let given = words_within(words, table);
     let lent = bytes_within(bytes, &text);
     if given < words || lent < bytes {
-        too_large();
+        too_large(output);
         return;
     }
-    show_write(name, writing, counts, &table[..given], &mut text[..lent]);
+    show_write(
+        output,
+        name,
+        writing,
+        counts,
+        &table[..given],
+        &mut text[..lent],
+    );
 }
 
-fn write_vector(line: &[u8], name: &[u8], writing: Writing) {
+fn write_vector(output: Stdout, line: &[u8], name: &[u8], writing: Writing) {
     let mut table = words_of(0);
     let circuit = circuit_at(line, name.len(), &mut table);
     let bytes = parts::next(line, circuit.behind);
     if !parts::ends(line, bytes) {
-        not_a_vector();
+        not_a_vector(output);
         return;
     }
     let counts = circuit.counts;
-    write_lent(name, writing, counts, &table, circuit.words, bytes.value);
+    write_lent(
+        output,
+        name,
+        writing,
+        counts,
+        &table,
+        circuit.words,
+        bytes.value,
+    );
 }
 
 // ---- the list
 
-fn answer(line: &[u8]) {
+fn answer(output: Stdout, line: &[u8]) {
     if parts::opens(line, b"#") {
-        say(line);
-        say(b"\n");
+        say(output, line);
+        say(output, b"\n");
     } else if parts::opens(line, b"read ") {
-        read_vector(line, b"read ", Reading::Plain);
+        read_vector(output, line, b"read ", Reading::Plain);
     } else if parts::opens(line, b"readbinary ") {
-        read_vector(line, b"readbinary ", Reading::Binary);
+        read_vector(output, line, b"readbinary ", Reading::Binary);
     } else if parts::opens(line, b"readbeginners ") {
-        read_vector(line, b"readbeginners ", Reading::Beginners);
+        read_vector(output, line, b"readbeginners ", Reading::Beginners);
     } else if parts::opens(line, b"any ") {
-        any_vector(line, b"any ");
+        any_vector(output, line, b"any ");
     } else if parts::opens(line, b"write ") {
-        write_vector(line, b"write ", Writing::Plain);
+        write_vector(output, line, b"write ", Writing::Plain);
     } else if parts::opens(line, b"writebinary ") {
-        write_vector(line, b"writebinary ", Writing::Binary);
+        write_vector(output, line, b"writebinary ", Writing::Binary);
     } else {
-        not_a_vector();
+        not_a_vector(output);
     }
 }
 
-fn replay(list: &[u8]) {
+fn replay(output: Stdout, list: &[u8]) {
     let mut at = 0;
     while at < list.len() {
         let end = parts::line_end(list, at);
-        answer(&list[at..end]);
+        answer(output, &list[at..end]);
         at = end + 1;
     }
 }
 
-fn main() {
+fn main(rt: HostRuntime) {
+    let output = rt.stdout();
     let mut list = vectors::room_for_list();
-    let got = vectors::take_list(&mut list);
-    replay(&list[..got]);
+    let got = vectors::take_list(rt.stdin(), output, &mut list);
+    replay(output, &list[..got]);
 }

@@ -1,32 +1,36 @@
 // The report program (specification, 6): a circuit's text on standard input, the report on standard output.
-use libc::{STDERR_FILENO, STDOUT_FILENO};
+#![tactic(auto)]
+
 use reported::REPORT_BYTES;
 use reporting::DECIDING_BYTES;
+use std::io::{Stderr, Stdout};
 
-fn complain(why: &[u8]) {
-    io::write_all(STDERR_FILENO, why);
+fn complain(errors: Stderr, why: &[u8]) {
+    let _ = errors.write_all(why);
 }
 
 // The report on a text, on standard output.
-fn print_report(text: &[u8]) {
+fn print_report(output: Stdout, errors: Stderr, text: &[u8]) {
     let mut out = [0u8; REPORT_BYTES];
     let bytes = reported::report(text, &mut out);
-    if !io::write_all(STDOUT_FILENO, &out[..bytes]) {
-        complain(b"report: the report was not written\n");
+    if output.write_all(&out[..bytes]).is_err() {
+        complain(errors, b"report: the report was not written\n");
     }
 }
 
 // A text that fills the buffer is refused whatever follows: that is printed before anything more is waited for.
-fn main() {
+fn main(rt: HostRuntime) {
+    let input = rt.stdin();
+    let errors = rt.stderr();
     let mut text = [0u8; DECIDING_BYTES];
-    let taken = reporting::take_text(&mut text);
+    let taken = reporting::take_text(input, &mut text);
     if taken.failed {
-        complain(b"report: standard input was not read to its end\n");
+        complain(errors, b"report: standard input was not read to its end\n");
         return;
     }
     let bytes = taken.bytes;
-    print_report(&text[..bytes]);
+    print_report(rt.stdout(), errors, &text[..bytes]);
     if bytes == DECIDING_BYTES {
-        reporting::skip_rest();
+        reporting::skip_rest(input);
     }
 }

@@ -1,4 +1,6 @@
 // The report on a text (specification, 6), as the programs print it.
+#![tactic(auto)]
+
 ghost use Rattle.std.specs.Prelude.{◌≡◌, ◌++◌, ◌+◌, ◌*◌, ◌≤◌, length, take, drop};
 ghost use Rattle.three.specs.Record.{unpack};
 ghost use Rattle.circuit.specs.Refusal.{refusal};

@@ -1,9 +1,11 @@
 // What the programs that report on a circuit share (specification, 6): the text on standard input, and the line on a refusal.
+#![tactic(auto)]
+
 ghost use Rattle.std.specs.Prelude.{◌+◌, ◌≤◌, length};
 ghost use Rattle.putting.specs.PutInCode.{Put};
 ghost use Rattle.reporting.specs.Reporting.{refusing};
 
-use libc::STDIN_FILENO;
+use std::io::{Read, Stdin};
 
 // The table of any circuit fits: 2 × 512 + 3 × 64 + 2 × 3,327 words.
 pub const TABLE_WORDS: usize = 7870;
@@ -14,7 +16,7 @@ pub const DECIDING_BYTES: usize = 60001;
 // Of what follows. Any file that is sent by mistake has less, most likely; and so much takes an instant.
 const MOST_SKIPPED: usize = 16777216;
 
-// What `io::buffer` holds.
+// What is read and thrown away at once.
 const PIECE: usize = 4096;
 
 // On a refusal its only line is `refused` and the number.
@@ -34,25 +36,30 @@ pub struct Taken {
 }
 
 // One read behind the bytes that are there.
-fn take_some(text: &mut [u8], at: usize) -> Taken
+fn take_some(mut input: Stdin, text: &mut [u8], at: usize) -> Taken
     requires { at ≤ length text.old }
     ensures { at + result.bytes ≤ length text.old }
 {
     let room = &mut text[at..];
-    let got = libc::read(STDIN_FILENO, room);
-    Taken {
-        bytes: io::count(got, room),
-        failed: got < 0,
+    match input.read(room) {
+        Ok(bytes) => Taken {
+            bytes,
+            failed: false,
+        },
+        Err(_) => Taken {
+            bytes: 0,
+            failed: true,
+        },
     }
 }
 
 // The text to its end, or as much of it as the buffer holds.
-pub fn take_text(text: &mut [u8]) -> Taken
+pub fn take_text(input: Stdin, text: &mut [u8]) -> Taken
     ensures { result.bytes ≤ length text.old }
 {
     let mut bytes = 0;
     while bytes < text.len() {
-        let more = take_some(text, bytes);
+        let more = take_some(input, text, bytes);
         if more.bytes == 0 {
             return Taken {
                 bytes,
@@ -68,19 +75,18 @@ pub fn take_text(text: &mut [u8]) -> Taken
 }
 
 // How many bytes a read gives of what is left; none at its end, or where it fails.
-fn skip_some() -> usize
+fn skip_some(mut input: Stdin) -> usize
     ensures { result ≤ 4096 }
 {
-    let mut piece = io::buffer();
-    let got = libc::read(STDIN_FILENO, &mut piece);
-    io::count(got, &piece)
+    let mut piece = [0u8; PIECE];
+    input.read(&mut piece).unwrap_or(0)
 }
 
 // What is left, so that whoever sends it can go on to its end; at most MOST_SKIPPED bytes of it, since it may have no end.
-pub fn skip_rest() {
+pub fn skip_rest(input: Stdin) {
     let mut left = MOST_SKIPPED;
     while left >= PIECE {
-        let got = skip_some();
+        let got = skip_some(input);
         if got == 0 {
             return;
         }

@@ -1,13 +1,15 @@
 // Many reports (specification, 6.3): on standard input how many texts there are, their sizes and the texts, on standard output their reports.
+#![tactic(auto)]
+
 ghost use Rattle.std.specs.Prelude.{◌≡◌, ◌-◌, ◌≤◌, ◌<◌, length};
 ghost use Rattle.lines.specs.LinesInCode.{from, NumberFound};
 ghost use Rattle.reporting.specs.Reporting.{Piece};
 ghost use Rattle.reports.specs.Reports.{read_sizes};
 ghost use Rattle.reports.specs.ReportsInCode.{SizeFound, summed, left_at, Framed, FrameFound};
 
-use libc::{STDERR_FILENO, STDOUT_FILENO};
 use lines::{Ending, ReadNumber};
 use reported::REPORT_BYTES;
+use std::io::{Stderr, Stdout};
 
 // Room for 64 texts of 4,096 bytes.
 const MOST_STREAM: usize = 262144;
@@ -122,8 +124,8 @@ fn put_next(
     }
 }
 
-fn complain(why: &[u8]) {
-    io::write_all(STDERR_FILENO, why);
+fn complain(errors: Stderr, why: &[u8]) {
+    let _ = errors.write_all(why);
 }
 
 // Prints the report on the next text; the positions of those behind it, and whether it was written.
@@ -134,7 +136,7 @@ struct Printed {
     at: usize,
 }
 
-fn print_next(stream: &[u8], texts: usize, sizes: usize, at: usize) -> Printed
+fn print_next(output: Stdout, stream: &[u8], texts: usize, sizes: usize, at: usize) -> Printed
     requires { Framed stream.now texts sizes at × (0 < texts) }
     ensures { Framed stream.now (texts - 1) result.sizes result.at }
 {
@@ -142,23 +144,30 @@ fn print_next(stream: &[u8], texts: usize, sizes: usize, at: usize) -> Printed
     let next = put_next(stream, texts, sizes, at, &mut out);
     let bytes = next.bytes;
     Printed {
-        written: io::write_all(STDOUT_FILENO, &out[..bytes]),
+        written: output.write_all(&out[..bytes]).is_ok(),
         sizes: next.sizes,
         at: next.at,
     }
 }
 
 // The reports on so many texts, one behind the other.
-fn print_reports(stream: &[u8], texts: usize, first: usize, start: usize)
+fn print_reports(
+    output: Stdout,
+    errors: Stderr,
+    stream: &[u8],
+    texts: usize,
+    first: usize,
+    start: usize,
+)
     requires { Framed stream.now texts first start }
 {
     let mut left = texts;
     let mut sizes = first;
     let mut at = start;
     while left > 0 {
-        let printed = print_next(stream, left, sizes, at);
+        let printed = print_next(output, stream, left, sizes, at);
         if !printed.written {
-            complain(b"reports: the reports were not written\n");
+            complain(errors, b"reports: the reports were not written\n");
             return;
         }
         left -= 1;
@@ -168,12 +177,22 @@ fn print_reports(stream: &[u8], texts: usize, first: usize, start: usize)
 }
 
 // What is printed for a stream, on standard output.
-fn print_stream(stream: &[u8]) {
+fn print_stream(output: Stdout, errors: Stderr, stream: &[u8]) {
     let framed = find_frame(stream);
     if !framed.framed {
-        complain(b"reports: the sizes are no numbers, or do not add up to the texts\n");
+        complain(
+            errors,
+            b"reports: the sizes are no numbers, or do not add up to the texts\n",
+        );
     }
-    print_reports(stream, framed.texts, framed.sizes, framed.at);
+    print_reports(
+        output,
+        errors,
+        stream,
+        framed.texts,
+        framed.sizes,
+        framed.at,
+    );
 }
 
 // A buffer whose length is all that the prover looks at.
@@ -184,17 +203,18 @@ fn room_for_stream() -> [u8; MOST_STREAM]
 }
 
 // A stream that fills the buffer may have more behind it: nothing is said of any of its texts.
-fn main() {
+fn main(rt: HostRuntime) {
+    let errors = rt.stderr();
     let mut stream = room_for_stream();
-    let taken = reporting::take_text(&mut stream);
+    let taken = reporting::take_text(rt.stdin(), &mut stream);
     if taken.failed {
-        complain(b"reports: standard input was not read to its end\n");
+        complain(errors, b"reports: standard input was not read to its end\n");
         return;
     }
     let bytes = taken.bytes;
     if bytes == MOST_STREAM {
-        complain(b"reports: more than the program has room for\n");
+        complain(errors, b"reports: more than the program has room for\n");
         return;
     }
-    print_stream(&stream[..bytes]);
+    print_stream(rt.stdout(), errors, &stream[..bytes]);
 }

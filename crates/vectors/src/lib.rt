@@ -4,16 +4,18 @@
 // A list, w.. or b.., has its length in front of it. Each buffer that is lent has 0xFF in every byte. In an answer equal
 // elements that follow each other are value*count, bytes in hex and words in decimal, and `-` is a buffer of length 0.
 // A comment is its own line.
+#![tactic(auto)]
+
 pub mod parts;
 pub mod say;
 
-ghost use Rattle.std.specs.Prelude.{◌≡◌, length};
-ghost use Rattle.io.specs.Counts.{IsPrefixLen as Within};
+ghost use Rattle.std.specs.Prelude.{◌≡◌, ◌+◌, ◌≤◌, length};
+ghost use Rattle.vectors.specs.Within.{Within};
 
 use circuit::Counts;
-use libc::STDIN_FILENO;
 use parts::Cursor;
 use say::{say, say_number};
+use std::io::{Read, Stdin, Stdout};
 
 // The longest buffers of a vector, beyond every length that the calls judge by.
 const MOST_BYTES: usize = 66_000;
@@ -37,16 +39,42 @@ pub fn room_for_list() -> [u8; MOST_LIST]
     [0u8; MOST_LIST]
 }
 
-// A list that fills the buffer may have more behind it, so it is not replayed in part. The simulator answers no list
-// with this line: it stands in no stored list of answers.
-pub fn take_list(list: &mut [u8]) -> usize
+// One read behind the bytes that are there; none where the input ends or the read fails.
+fn read_some(mut input: Stdin, list: &mut [u8], at: usize) -> usize
+    requires { at ≤ length list.old }
+    ensures { at + result ≤ length list.old }
+{
+    input.read(&mut list[at..]).unwrap_or(0)
+}
+
+// Until the buffer is full, the input ends or a read fails.
+fn read_full(input: Stdin, list: &mut [u8]) -> usize
     ensures { Within result list.new }
 {
-    let got = io::read_full(STDIN_FILENO, list);
+    let mut done = 0;
+    while done < list.len() {
+        let got = read_some(input, list, done);
+        if got == 0 {
+            break;
+        }
+        done += got;
+    }
+    done
+}
+
+// A list that fills the buffer may have more behind it, so it is not replayed in part. The simulator answers no list
+// with this line: it stands in no stored list of answers.
+pub fn take_list(input: Stdin, output: Stdout, list: &mut [u8]) -> usize
+    ensures { Within result list.new }
+{
+    let got = read_full(input, list);
     if got < list.len() {
         return got;
     }
-    say(b"the whole list is too large: nothing was replayed\n");
+    say(
+        output,
+        b"the whole list is too large: nothing was replayed\n",
+    );
     0
 }
 
@@ -138,25 +166,25 @@ pub fn circuit_at(line: &[u8], at: usize, table: &mut [u16]) -> CircuitAt {
 
 // ---- answers
 
-pub fn not_a_vector() {
-    say(b"not a vector\n");
+pub fn not_a_vector(output: Stdout) {
+    say(output, b"not a vector\n");
 }
 
-pub fn too_large() {
-    say(b"too large\n");
+pub fn too_large(output: Stdout) {
+    say(output, b"too large\n");
 }
 
 // A call's name as it opens the vector, and the number that it answered.
-pub fn say_answer(name: &[u8], number: u32) {
-    say(name);
-    say_number(b"number ", number as usize);
+pub fn say_answer(output: Stdout, name: &[u8], number: u32) {
+    say(output, name);
+    say_number(output, b"number ", number as usize);
 }
 
-pub fn say_counts(counts: Counts) {
-    say_number(b" I ", counts.inputs);
-    say_number(b" L ", counts.latches);
-    say_number(b" O ", counts.lamps);
-    say_number(b" A ", counts.gates);
-    say_number(b" B ", counts.bads);
-    say_number(b" C ", counts.constraints);
+pub fn say_counts(output: Stdout, counts: Counts) {
+    say_number(output, b" I ", counts.inputs);
+    say_number(output, b" L ", counts.latches);
+    say_number(output, b" O ", counts.lamps);
+    say_number(output, b" A ", counts.gates);
+    say_number(output, b" B ", counts.bads);
+    say_number(output, b" C ", counts.constraints);
 }

@@ -1,33 +1,29 @@
 // The lines of answers: numbers, and the elements of a buffer with equal ones that follow each other as value*count.
 ghost use Rattle.std.specs.Prelude.{◌≤◌, ◌<◌, length};
 
-use libc::STDOUT_FILENO;
+use std::io::Stdout;
 
-pub fn say(text: &[u8]) {
-    io::write_all(STDOUT_FILENO, text);
+pub fn say(output: Stdout, text: &[u8]) {
+    let _ = output.write_all(text);
 }
 
 // A name, and the number behind it.
-pub fn say_number(name: &[u8], number: usize) {
-    say(name);
-    io::print_decimal(STDOUT_FILENO, number as u64);
+pub fn say_number(output: Stdout, name: &[u8], number: usize) {
+    say(output, name);
+    let _ = output.print(number);
 }
 
-fn say_times(times: usize) {
+fn say_times(output: Stdout, times: usize) {
     if times > 1 {
-        say_number(b"*", times);
+        say_number(output, b"*", times);
     }
 }
 
 // A buffer of length 0 has no element to show.
-fn say_none(length: usize) {
+fn say_none(output: Stdout, length: usize) {
     if length == 0 {
-        say(b" -");
+        say(output, b" -");
     }
-}
-
-fn wide(byte: u8) -> u64 {
-    byte as u64
 }
 
 // Where the equal bytes from a position on end.
@@ -43,19 +39,19 @@ fn bytes_alike(bytes: &[u8], at: usize) -> usize
     end
 }
 
-fn say_byte(byte: u8, times: usize) {
-    say(b" ");
-    io::print_hex(STDOUT_FILENO, wide(byte), 2);
-    say_times(times);
+fn say_byte(output: Stdout, byte: u8, times: usize) {
+    say(output, b" ");
+    let _ = print!(output; "{byte:02x}");
+    say_times(output, times);
 }
 
-pub fn say_bytes(name: &[u8], bytes: &[u8]) {
-    say(name);
-    say_none(bytes.len());
+pub fn say_bytes(output: Stdout, name: &[u8], bytes: &[u8]) {
+    say(output, name);
+    say_none(output, bytes.len());
     let mut at = 0;
     while at < bytes.len() {
         let end = bytes_alike(bytes, at);
-        say_byte(bytes[at], end - at);
+        say_byte(output, bytes[at], end - at);
         at = end;
     }
 }
@@ -77,18 +73,18 @@ fn words_alike(words: &[u16], at: usize) -> usize
     end
 }
 
-fn say_word(word: u16, times: usize) {
-    say_number(b" ", wide_word(word));
-    say_times(times);
+fn say_word(output: Stdout, word: u16, times: usize) {
+    say_number(output, b" ", wide_word(word));
+    say_times(output, times);
 }
 
-pub fn say_words(name: &[u8], words: &[u16]) {
-    say(name);
-    say_none(words.len());
+pub fn say_words(output: Stdout, name: &[u8], words: &[u16]) {
+    say(output, name);
+    say_none(output, words.len());
     let mut at = 0;
     while at < words.len() {
         let end = words_alike(words, at);
-        say_word(words[at], end - at);
+        say_word(output, words[at], end - at);
         at = end;
     }
 }

@@ -1,4 +1,6 @@
 // Why a lamp stays dark or lit (specification, 6): the lamp's number as the argument, a circuit's text on standard input, the lines on standard output.
+#![tactic(auto)]
+
 ghost use Rattle.std.specs.Prelude.{[], ◌≡◌, ◌+◌, ◌*◌, ◌≤◌, ◌<◌, length};
 ghost use Rattle.three.specs.Lists.{over};
 ghost use Rattle.three.specs.Record.{pack};
@@ -10,10 +12,11 @@ ghost use Rattle.why_report.specs.WhyReport.{explained, run_explained, why_repor
 ghost use Rattle.why_report.specs.WhyReportInCode.{explanation_in, lines_from, Judgeable, Explains, Ready, GroupEnds, Begins};
 
 use circuit::Counts;
-use libc::{STDERR_FILENO, STDOUT_FILENO};
 use lines::Ending;
 use reporting::{DECIDING_BYTES, TABLE_WORDS};
 use rows::Row;
+use std::env::{Env, FillError};
+use std::io::{Stderr, Stdout};
 
 // Takes w = 16 and a cube buffer of 65,536 bytes, as the report does.
 const INTERVAL: usize = 16;
@@ -195,12 +198,14 @@ fn begin(
     begin_run(counts, table, lamp, cubes, out)
 }
 
-fn complain(why: &[u8]) {
-    io::write_all(STDERR_FILENO, why);
+fn complain(errors: Stderr, why: &[u8]) {
+    let _ = errors.write_all(why);
 }
 
 // Prints the line of the group that begins with this cube; the cube after its last, or n where it was not written.
 fn print_group(
+    output: Stdout,
+    errors: Stderr,
     counts: Counts,
     table: &[u16],
     cubes: &[u8],
@@ -214,8 +219,8 @@ fn print_group(
     let mut out = [0u8; LINE_BYTES];
     let group = put_group(counts, table, cubes, n, lamp, from, &mut out);
     let bytes = group.bytes;
-    if !io::write_all(STDOUT_FILENO, &out[..bytes]) {
-        complain(b"why_report: the lines were not written\n");
+    if output.write_all(&out[..bytes]).is_err() {
+        complain(errors, b"why_report: the lines were not written\n");
         return n;
     }
     group.next
@@ -223,6 +228,8 @@ fn print_group(
 
 // The lines of n cubes, group by group.
 fn print_groups(
+    output: Stdout,
+    errors: Stderr,
     counts: Counts,
     table: &[u16; TABLE_WORDS],
     cubes: &[u8; CUBE_BYTES],
@@ -233,22 +240,30 @@ fn print_groups(
 {
     let mut from = 0;
     while from < n {
-        from = print_group(counts, table, cubes, n, lamp, from);
+        from = print_group(output, errors, counts, table, cubes, n, lamp, from);
     }
 }
 
 // What is printed for a text and a lamp, on standard output.
-fn print_why(text: &[u8], lamp: usize) {
+fn print_why(output: Stdout, errors: Stderr, text: &[u8], lamp: usize) {
     let mut table = [0u16; TABLE_WORDS];
     let mut cubes = [0u8; CUBE_BYTES];
     let mut out = [0u8; LINE_BYTES];
     let begun = begin(text, lamp, &mut table, &mut cubes, &mut out);
     let bytes = begun.bytes;
-    if !io::write_all(STDOUT_FILENO, &out[..bytes]) {
-        complain(b"why_report: the lines were not written\n");
+    if output.write_all(&out[..bytes]).is_err() {
+        complain(errors, b"why_report: the lines were not written\n");
         return;
     }
-    print_groups(begun.counts, &table, &cubes, begun.cubes, lamp);
+    print_groups(
+        output,
+        errors,
+        begun.counts,
+        &table,
+        &cubes,
+        begun.cubes,
+        lamp,
+    );
 }
 
 // The lamp that the argument names, where it is a number and nothing else.
@@ -258,9 +273,18 @@ struct Asked {
     given: bool,
 }
 
-fn take_lamp() -> Asked {
+// How long the argument is; 0 where there is none, and 8 where the buffer does not hold it.
+fn take_word(rt: &impl Env, word: &mut [u8; 8]) -> usize {
+    match rt.arg(1, word) {
+        Ok(got) => got,
+        Err(FillError::NotPresent) => 0,
+        Err(FillError::TooLong) => 8,
+    }
+}
+
+fn take_lamp(rt: &impl Env) -> Asked {
     let mut word = [0u8; 8];
-    let got = os::arg(1, &mut word);
+    let got = take_word(rt, &mut word);
     if got >= 8 {
         return Asked {
             lamp: 0,
@@ -276,18 +300,22 @@ fn take_lamp() -> Asked {
     }
 }
 
-fn main() {
-    let asked = take_lamp();
+fn main(rt: HostRuntime) {
+    let errors = rt.stderr();
+    let asked = take_lamp(&rt);
     if !asked.given {
-        complain(b"why_report: the argument is not a lamp's number\n");
+        complain(errors, b"why_report: the argument is not a lamp's number\n");
         return;
     }
     let mut text = [0u8; DECIDING_BYTES];
-    let taken = reporting::take_text(&mut text);
+    let taken = reporting::take_text(rt.stdin(), &mut text);
     if taken.failed {
-        complain(b"why_report: standard input was not read to its end\n");
+        complain(
+            errors,
+            b"why_report: standard input was not read to its end\n",
+        );
         return;
     }
     let bytes = taken.bytes;
-    print_why(&text[..bytes], asked.lamp);
+    print_why(rt.stdout(), errors, &text[..bytes], asked.lamp);
 }

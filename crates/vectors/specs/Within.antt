@@ -1,0 +1,6 @@
+-- How many elements at the front of a buffer. Assumes nothing.
+use Rattle.std.specs.Prelude.{◌≡◌, ℕ, ◌≤◌, List, length, take}
+
+-- the buffer has so many; the second part follows from the first
+abbrev pub Within : ℕ → List ℕ → Type 0
+Within n xs = (n ≤ length xs) × (n ≡ length (take n xs))
