@@ -1,0 +1,21 @@
+-- `why_report::explain_cube` meets its contract: `why` refuses nothing here, and answers the explanation. Assumes nothing.
+use native.Mathlib.Omega.{arith}
+use Rattle.circuit.proofs.Legality.{legal}
+use Rattle.why_report.proofs.Explaining.{stands, stored_cube, explained_in}
+use Rattle.why_report.proofs.explain_cube.Goals as goal
+
+pub cube_bytes-requires : goal.cube_bytes-requires
+cube_bytes-requires c = (legal _ _ c.requires.0.are.accepts).bounded.latches
+
+pub overflow_mul-at : goal.overflow_mul-at
+overflow_mul-at c = omega (arith, stands _ _ _ _ _ c.requires.0 _ c.cube_bytes.ensures, c.well_formed)
+
+pub store_latches-requires : goal.store_latches-requires
+store_latches-requires c =
+    let size = c.cube_bytes.ensures in
+    let bounded = (legal _ _ c.requires.0.are.accepts).bounded in
+    (bounded.latches, omega (arith, stands _ _ _ _ _ c.requires.0 _ size), stored_cube _ _ _ _ _ c.requires.0 _ size, omega (arith, bounded.latches))
+
+pub returns : goal.returns
+returns c =
+    explained_in _ _ _ _ _ c.requires.0 _ c.cube_bytes.ensures _ c.store_latches.ensures _ _ _ c.requires.1 c.why.ensures.0
