@@ -2,7 +2,7 @@
 use Rattle.std.specs.Prelude.{◌≡◌, refl, [], ◌∷◌, ◌++◌}
 use Rattle.text.specs.Decimal.{digits, decimal}
 use Rattle.text.specs.Line.{ended_line}
-use Rattle.text.specs.Text.{head_numbers, shown, numbers, line_of, write_rows, write_opened}
+use Rattle.text.specs.Text.{numbers, line_of}
 use Rattle.text.specs.Bench.{bytes}
 use Rattle.binary.specs.Examples.{outcome_of, written}
 use Rattle.rows.specs.Rows.{item}

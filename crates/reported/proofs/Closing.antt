@@ -1,7 +1,7 @@
 -- The report on an accepted text with a lamp or bad state and at most 503 latches is on a run that stopped, and without constraints on one that closed; so without
 -- either too it is never `refused 15`: 65,536 bytes have room for as many cubes as a run with w = 16 takes. Assumes nothing.
 use mathlib.Core.Path.{◌≡◌, refl, sym, ap, ◌∙◌}
-use mathlib.Core.Bool.{Bool, true, false, cond}
+use mathlib.Core.Bool.{Bool, false}
 use mathlib.Core.List.{List}
 use Prim.Native.Nat.{ℕ, zero, suc, ◌/◌, ◌≤◌, ◌<◌}
 use native.Mathlib.Omega.{arith}

@@ -1,5 +1,5 @@
 -- What is said of what the reader answers with a table that is long enough for any circuit: the text's own refusal, or a table that opens with its circuit. Assumes nothing.
-use mathlib.Core.Path.{◌≡◌, refl, sym, ap, ap₂, ◌∙◌}
+use mathlib.Core.Path.{◌≡◌, sym, ap, ap₂, ◌∙◌}
 use mathlib.Core.List.{List}
 use Prim.Native.Nat.{ℕ, ◌/◌, ◌≤◌}
 use native.Mathlib.Omega.{arith}

@@ -1,11 +1,10 @@
 -- The first piece: a refusal, an open lamp, or a lamp that is known in every stored cube. Assumes nothing.
-use mathlib.Core.Path.{◌≡◌, refl, sym, ap, ap₂, ◌∙◌}
-use mathlib.Core.List.{List, [], ◌++◌}
+use mathlib.Core.Path.{◌≡◌, refl, sym, ap, ◌∙◌}
+use mathlib.Core.List.{List, []}
 use Prim.Native.Nat.{ℕ, zero, suc, ◌+◌, ◌-◌, ◌≤◌, ◌<◌}
 use native.Mathlib.Omega.{arith}
 use borrow.Author.Tests.{le-ltb, lt-ltb}
-use lib.Dec.{ltb}
-use lib.ListN.{length, get_or, replicate}
+use lib.ListN.{length, get_or}
 use Rattle.three.specs.Value.{unknown, code, decode}
 use Rattle.three.specs.Cube.{Cube, alike}
 use Rattle.three.specs.Record.{pair_at, unpack}
@@ -14,7 +13,6 @@ use Rattle.circuit.specs.declared.Counts.{Counts}
 use Rattle.circuit.specs.Circuit.{Circuit}
 use Rattle.circuit.specs.Refusal.{refusal}
 use Rattle.circuit.specs.Table.{verdicts, circuit_of, circuit_tests}
-use Rattle.circuit.specs.RulesInCode.{Bounded}
 use Rattle.circuit.proofs.Legality.{legal}
 use Rattle.putting.specs.PutInCode.{Put}
 use Rattle.cubes.specs.declared.ChainAnswer.{ChainAnswer}
@@ -34,7 +32,7 @@ use Rattle.reasons.specs.Reasons.{is_known, line, told, told_from}
 use Rattle.reporting.specs.Reporting.{refusing, of_run}
 use Rattle.reporting.proofs.Running.{chain_stopped}
 use Rattle.why_report.specs.WhyReport.{explanation, explained, run_explained}
-use Rattle.why_report.specs.WhyReportInCode.{explanation_in, lines_from, Judgeable, Ready, Begins}
+use Rattle.why_report.specs.WhyReportInCode.{explanation_in, Judgeable, Begins}
 use Rattle.why_report.proofs.Pieces.{put_piece}
 use Rattle.why_report.proofs.Known.{known_field, known_in}
 

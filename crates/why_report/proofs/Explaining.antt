@@ -1,6 +1,6 @@
 -- What `why` answers for a stored cube in which the lamp is known, and the group that a cube begins. Assumes nothing.
 use mathlib.Core.Path.{◌≡◌, refl, sym, ap, ◌∙◌}
-use mathlib.Core.Bool.{Bool, true, false}
+use mathlib.Core.Bool.{Bool}
 use mathlib.Core.List.{List, ◌++◌}
 use Prim.Native.Nat.{ℕ, suc, ◌+◌, ◌*◌, ◌≤◌, ◌<◌}
 use native.Mathlib.Omega.{arith}
@@ -17,18 +17,16 @@ use Rattle.three.proofs.Lists.{length_tabulate}
 use Rattle.three.proofs.Pack.{length_pack, unpack_over}
 use Rattle.three.proofs.Soundness.{record_over}
 use Rattle.circuit.specs.declared.Counts.{Counts}
-use Rattle.circuit.specs.Refusal.{left_by, refusal}
+use Rattle.circuit.specs.Refusal.{left_by}
 use Rattle.circuit.specs.Table.{circuit_of}
-use Rattle.circuit.specs.RulesInCode.{Bounded}
 use Rattle.circuit.proofs.Legality.{legal}
 use Rattle.cubes.specs.Buffer.{cube_bytes, cube_of, cube_in}
-use Rattle.cubes.specs.BufferInCode.{Cubes}
 use Rattle.cubes.specs.Given.{same}
 use Rattle.cubes.proofs.StoredCube.{cube_of_sized, cube_record, cube_at_lem, cube_in_sized}
 use Rattle.cubes.proofs.Storing.{cube_place}
 use Rattle.cubes.proofs.Merging.{length_over}
 use Rattle.asked.specs.Follow.{forcing}
-use Rattle.asked.specs.Call.{lamp_in, lamp_literal, why_fields, why_tests, WhyGiven, Explained}
+use Rattle.asked.specs.Call.{lamp_in, why_fields, Explained}
 use Rattle.asked.proofs.Refusing.{given_passes, answer_passes, answer_decides}
 use Rattle.putting.specs.PutInCode.{Put}
 use Rattle.reasons.specs.Reasons.{line}

@@ -1,7 +1,7 @@
 -- A piece that is put from the front of a buffer. Assumes nothing.
 use mathlib.Core.Path.{◌≡◌, refl, sym}
 use mathlib.Core.List.{List, [], ◌++◌, append-nil}
-use Prim.Native.Nat.{ℕ, ◌≤◌, ◌<◌}
+use Prim.Native.Nat.{ℕ, ◌≤◌}
 use native.Mathlib.Omega.{arith}
 use lib.ListN.{length}
 use Rattle.circuit.specs.declared.Counts.{Counts}
@@ -9,7 +9,7 @@ use Rattle.putting.specs.PutInCode.{Put}
 use Rattle.reasons.specs.Reasons.{told_from}
 use Rattle.reporting.proofs.Reading.{put_front}
 use Rattle.reporting.specs.Reporting.{Piece}
-use Rattle.why_report.specs.WhyReportInCode.{lines_from, Begins}
+use Rattle.why_report.specs.WhyReportInCode.{Begins}
 
 pub put_piece : {before after out out' piece : List ℕ} {r : ℕ} → before ≡ piece ++ after → Put out 0 piece out' r × (r ≤ length out) → Piece before after out r out'
 put_piece {piece = piece} e p = let is = put_front {whole = piece} refl p in record { piece = piece; returns = is.0; fills = is.1; fits = is.2; left = e }

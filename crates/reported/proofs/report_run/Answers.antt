@@ -17,7 +17,7 @@ returns-then-chain-ne0 c =
 
 pub put_stopped-requires : goal.put_stopped-requires
 put_stopped-requires c =
-    omega (arith, (legal c.args.counts c.args.table.now c.requires).bounded, slice_aggregate_put_stopped c, slice_aggregate_put_stopped_2 c)
+    omega (arith, (legal c.args.counts c.args.table.now c.requires).bounded)
 
 pub returns : goal.returns
 returns c =

@@ -1,6 +1,5 @@
 use mathlib.Core.Path.{refl, sym, ◌∙◌}
 use Rattle.circuit.proofs.Legality.{legal}
-use Prim.Native.Nat.{◌-◌}
 use native.Mathlib.Omega.{arith}
 use Rattle.reasons.proofs.Groups.{group_first, group_next, group_ends, group_last}
 use Rattle.why_report.proofs.Explaining.{ready_below, same_bytes, group_is}

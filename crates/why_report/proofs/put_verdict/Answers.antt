@@ -6,7 +6,7 @@ use Rattle.why_report.proofs.Beginning.{verdict_open, verdict_known}
 use Rattle.why_report.proofs.put_verdict.Goals as goal
 
 pub field-field-requires : goal.field-field-requires
-field-field-requires c = let pre = c.requires in omega (arith, (legal _ _ pre.0.are.accepts).bounded, pre.1, slice_aggregate_field c)
+field-field-requires c = let pre = c.requires in omega (arith, (legal _ _ pre.0.are.accepts).bounded, pre.1)
 
 pub returns-then-field-eq0 : goal.returns-then-field-eq0
 returns-then-field-eq0 c =
