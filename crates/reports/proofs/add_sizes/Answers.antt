@@ -1,4 +1,3 @@
-use Prim.Native.Nat.{◌-◌}
 use native.Mathlib.Omega.{arith}
 use Rattle.reports.proofs.Sizes.{added_first, added_ill, added_next, added_last}
 use Rattle.reports.proofs.add_sizes.Goals as goal
@@ -9,18 +8,13 @@ loop-k-init c = added_first _ _ _ (omega arith)
 pub size_at-found-requires : goal.size_at-found-requires
 size_at-found-requires c = c.loop-k.invariant.within
 
-pub enum_known-found : goal.enum_known-found
-enum_known-found c = c.in-Value.in-Value-own.keys1
-
-pub enum_told-1 : goal.enum_told-1
-enum_told-1 c = c.in_default.in_default-own.keys2
-
 pub returns-in_default : goal.returns-in_default
 returns-in_default c =
     added_ill _ _ _ c.loop-k.invariant c.loop-k-test.true c.size_at-found.ensures c.in_default.is
 
 pub overflow_add-total : goal.overflow_add-total
-overflow_add-total c = omega (arith, (loop_again c).few)
+overflow_add-total c =
+    omega (arith, (added_next _ _ _ c.loop-k.invariant c.loop-k-test.true c.size_at-found.ensures c.in-Value.is).few)
 
 pub loop-k-preserved : goal.loop-k-preserved
 loop-k-preserved c =

@@ -1,5 +1,4 @@
 -- `reports::add_sizes` meets its contract: each size is added in turn, as `Added` says. Assumes nothing.
-use Prim.Native.Nat.{◌-◌}
 use Rattle.reports.proofs.Sizes.{Added}
 use Rattle.reports.proofs.add_sizes.Given as goal
 
