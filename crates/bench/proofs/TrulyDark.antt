@@ -40,6 +40,7 @@ K-dark e zero = dark e.first e.allowed
   where
     dark : (first : List Bool) → Each Allows [] first → lamps boolean K-circuit (settings e 0) first ≡ false ∷ []
     dark [] empty = ap (λ (b : Bool). b ∷ []) (off_with_inverse (e.switches zero 0))
+    dark (_ ∷ _) x = elim x [ ]
 K-dark e (suc t) = ap (λ (b : Bool). b ∷ []) (off_with_inverse (e.switches (suc t) 0))
 
 pub truly_dark : (table : List ℕ) → 16 ≤ length table → {number : ℕ} {counts : Counts} {table' : List ℕ} → Reading (bytes K·) table number counts table'
