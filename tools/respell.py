@@ -5,7 +5,7 @@ usage: python3 tools/respell.py [--look]        at the top of the repository, on
 
 firstGate, tried-first  ->  first_gate, tried_first
 
-A name is the repository's own where a file of specs/ or proofs/ declares or binds it. What a file imports from a library, and what
+A name is the repository's own where a file of specs/ or proofs/ declares or binds it, or a file of src/ gives it to an import. What a file imports from a library, and what
 Rattle makes for a proof (the paths behind c., tie., lts., goal.), stays. Types and modules, which begin with a capital, stay; so do
 strings, and in a comment every word but a name with a capital inside. In a page a name between backticks is turned. --look writes nothing and prints the names that fall together.
 """
@@ -109,6 +109,8 @@ def main(look):
         declared.update(t for t, dotted in tokens(bare) if not dotted and NAME.match(t) and t not in kept and ("-" in t or re.search("[a-z0-9][A-Z]", t)))
     names = {n for n in declared if NAME.match(n) and n not in KEPT and snake(n) != n and not n.startswith("+")}
     table = {n: snake(n) for n in names}
+    # port.py turns some of the laws named after getD, and not to the name that the function has now.
+    table.update((n, n.replace("get_d_", "get_or_")) for n in declared if n.startswith("get_d_"))
     # A lemma that would have its function's name gets _lem.
     words = {snake(n) for n in names if "-" not in n}
     table.update((n, snake(n) + "_lem") for n in names if "-" in n and snake(n) in words)
@@ -143,16 +145,19 @@ def main(look):
     for p in files(".rt", ("src",)):
         text = read(p)
         kept = imported(text, own)
+        given = {n: snake(n) for m in re.finditer(r"ghost use [^;]*", text) for n in re.findall(r" as ([a-z]\w*)", m.group(0)) if snake(n) != n}
+        told_here = table | given
+        kept -= set(given)
         brought = {t for m in re.finditer(r"ghost use [^;]*", text) for t, _ in tokens(m.group(0))}
         for hidden in sorted(set(re.findall(r"(\w+): ", text)) & {table[t] for t in brought if t in table}):
             together += 1
             print(f"together: {p}: a parameter and a word: {hidden}")
         out, at = [], 0
         for begin, end in sorted(clauses(text)):
-            out += [text[at:begin], turned(text[begin:end], table, fields, kept)]
+            out += [text[at:begin], turned(text[begin:end], told_here, fields, kept)]
             at = end
         new = "".join(out) + text[at:]
-        new = re.sub(r"(?m)^(\s*//.*)$", lambda m: turned(m.group(1), table, fields, kept), new)
+        new = re.sub(r"(?m)^(\s*//.*)$", lambda m: turned(m.group(1), told_here, fields, kept), new)
         if new != text:
             changed += 1
             if not look:
