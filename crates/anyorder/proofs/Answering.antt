@@ -1,5 +1,6 @@
 -- What each test decides, in the order of the refusals, and what an outcome leaves. Assumes nothing.
 use mathlib.Core.Path.{◌≡◌, refl, sym, ◌∙◌}
+use Rattle.std.specs.Prelude.{Result, IsErrAnd}
 use mathlib.Core.Bool.{Bool, true, false}
 use mathlib.Core.List.{List, [], ◌∷◌, ◌++◌}
 use Prim.Native.Nat.{ℕ, zero, suc, ◌+◌, ◌≤◌, ◌<◌}
@@ -9,6 +10,8 @@ use lib.Dec.{leb}
 use lib.ListN.{length, get_or}
 use Rattle.three.specs.Lists.{over}
 use Rattle.circuit.specs.declared.Counts.{Counts}
+use Rattle.circuit.specs.declared.Refusal.{Refusal}
+use Rattle.circuit.specs.Answer.{number_of as number, answered}
 use Rattle.circuit.specs.Refusal.{Test, ◌or◌, refusal}
 use Rattle.circuit.specs.Table.{variables, table_length}
 use Rattle.circuit.proofs.Refusals.{Numbered, stops, past, none, refuses_whole, none_past}
@@ -16,18 +19,25 @@ use Rattle.text.specs.Outcome.{Outcome, accepted, refused, number_of, tested, le
 use Rattle.text.specs.Text.{ends, counts_of, count_tests}
 use Rattle.text.specs.Calls.{zeros}
 use Rattle.text.proofs.Outcomes.{tested_stops, tested_past}
-use Rattle.lines.specs.declared.ReadLine.{ReadLine}
-use Rattle.lines.specs.LinesInCode.{Shape, numbers_of}
-use Rattle.reader.proofs.Opening.{counts_numbered, count_few}
+use Rattle.lines.specs.declared.read_line.ReadLine.{ReadLine}
+use Rattle.lines.specs.LinesInCode.{numbers_of}
+use Rattle.reader.proofs.FirstLine.{counts_numbered, count_few}
+use Rattle.reader.proofs.Bodies.{returned}
 use Rattle.drawn.specs.Drawing.{Drawing, drawing_tests, table, renumbered}
 use Rattle.drawn.specs.Lines.{any_header_tests, after_tests, room_tests, LeftBy}
+use Rattle.anyorder.specs.declared.Drawn.{Drawn}
+use Rattle.anyorder.specs.Answers.{drawn_counts, drawn_variables}
 
 -- ---- what an outcome leaves
 
 module _ {o : Outcome Drawing} (words names : List ℕ) where
-  pub left_refused : {n m k : ℕ} {c : Counts} → o ≡ refused n → (m ≡ n) × (c ≡ zeros) × (k ≡ 0) → LeftBy o words names m c k words names
+  pub left_refused : {n : ℕ} → o ≡ refused n → LeftBy o words names n zeros 0 words names
   unfolding number_of leaves
-  left_refused e r = rw (e, r.0, r.1, r.2) (record { answers = refl; returns = refl; most_is = refl; fills = refl; renumbers = refl })
+  left_refused e = rw e (record { answers = refl; returns = refl; most_is = refl; fills = refl; renumbers = refl })
+
+  -- what `?` answers of what is refused
+  pub left_turned : (r : Result Drawn Refusal) (e : Refusal) → IsErrAnd r (λ x. x ≡ e) → o ≡ refused (number e) → LeftBy o words names (answered r) (drawn_counts r) (drawn_variables r) words names
+  left_turned r e made f = rw (returned r e made) (left_refused f)
 
   pub left_accepted : {d : Drawing} {words' names' : List ℕ} → o ≡ accepted d → words' ≡ over (table d) words → names' ≡ over (renumbered d) names
       → LeftBy o words names 0 d.counts d.most words' names'
@@ -40,29 +50,25 @@ left_same e f = rw e f
 
 -- ---- 2 and 3
 
-module _ (ns : List ℕ) {k : ℕ} (counted : k ≡ refusal (count_tests ns)) where
-  pub header_refused : (k ≡ 0 → ⊥) → k ≡ refusal (any_header_tests ns)
+module _ (ns : List ℕ) (counted : 0 ≡ refusal (count_tests ns)) {c : Counts} (e : c ≡ counts_of ns) {m : ℕ} (given : m ≡ get_or ns 0 0) where
+  header_past : {n : ℕ} → n ≡ refusal (leb m 4095 or 3 ∷ leb (variables c) m or 3 ∷ []) → n ≡ refusal (any_header_tests ns)
   unfolding any_header_tests
-  header_refused = refuses_whole (count_tests ns) _ k counted
+  header_past h = none_past (count_tests ns) _ (counts_numbered ns) counted (rw (e, given) at h)
 
-  module _ (none_yet : k ≡ 0) {c : Counts} (e : c ≡ counts_of ns) {m : ℕ} (given : m ≡ get_or ns 0 0) where
-    header_past : {n : ℕ} → n ≡ refusal (leb m 4095 or 3 ∷ leb (variables c) m or 3 ∷ []) → n ≡ refusal (any_header_tests ns)
-    unfolding any_header_tests
-    header_past h = none_past (count_tests ns) _ (counts_numbered ns) (sym none_yet ∙ counted) (rw (e, given) at h)
+  pub header_many : 4095 < m → 3 ≡ refusal (any_header_tests ns)
+  header_many h = header_past (stops _ _ (lt-leb m 4095 h))
 
-    pub header_many : 4095 < m → 3 ≡ refusal (any_header_tests ns)
-    header_many h = header_past (stops _ _ (lt-leb m 4095 h))
+  module _ (few : m ≤ 4095) where
+    pub header_few : m < variables c → 3 ≡ refusal (any_header_tests ns)
+    header_few h = header_past (past _ _ (le-leb m 4095 few) (stops _ _ (lt-leb (variables c) m h)))
 
-    module _ (few : m ≤ 4095) where
-      pub header_few : m < variables c → 3 ≡ refusal (any_header_tests ns)
-      header_few h = header_past (past _ _ (le-leb m 4095 few) (stops _ _ (lt-leb (variables c) m h)))
-
-      pub header_passes : variables c ≤ m → 0 ≡ refusal (any_header_tests ns)
-      header_passes h = header_past (past _ _ (le-leb m 4095 few) (past _ _ (le-leb (variables c) m h) none))
+    pub header_passes : variables c ≤ m → 0 ≡ refusal (any_header_tests ns)
+    header_passes h = header_past (past _ _ (le-leb m 4095 few) (past _ _ (le-leb (variables c) m h) none))
 
 -- an ill-formed line has no numbers
-pub header_missing : (l : ReadLine) → Shape l → l.count ≡ 0 → 2 ≡ refusal (any_header_tests (numbers_of l))
-header_missing l s z = header_refused (numbers_of l) (count_few l s (omega arith)) (λ e. omega arith)
+pub header_missing : (l : ReadLine) → l.count ≡ 0 → 2 ≡ refusal (any_header_tests (numbers_of l))
+unfolding any_header_tests
+header_missing l z = refuses_whole (count_tests (numbers_of l)) _ 2 (count_few l (omega arith)) (λ e. omega arith)
 
 -- ---- 20, 21, 22, then 9, then 10
 

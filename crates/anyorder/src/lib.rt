@@ -3,61 +3,43 @@
 
 ghost use Rattle.std.specs.Prelude.{◌≡◌, ◌++◌, ◌+◌, ◌≤◌, length};
 ghost use Rattle.circuit.specs.Refusal.{refusal};
+ghost use Rattle.circuit.specs.Answer.{answered};
 ghost use Rattle.circuit.specs.Table.{variables};
 ghost use Rattle.circuit.specs.RulesInCode.{Bounded};
 ghost use Rattle.text.specs.Outcome.{accepted, tested, further};
-ghost use Rattle.text.specs.Text.{header as first_line, ending_of};
-ghost use Rattle.text.specs.Calls.{zeros};
-ghost use Rattle.lines.specs.LinesInCode.{from, ending_bytes, Shape, numbers_of, LineFound};
+ghost use Rattle.lines.specs.LinesInCode.{from, ending_bytes, numbers_of};
 ghost use Rattle.drawn.specs.Lines.{any_header_tests, after_tests, read_drawing, room_tests, LeftBy, ReadingAny};
 ghost use Rattle.defined.specs.Places.{held, Spoken};
+ghost use Rattle.anyorder.specs.Answers.{drawn_counts, drawn_variables};
 
-use circuit::Counts;
+use circuit::{Counts, Refusal};
 use lines::{Ending, ReadLine};
 use reader::MOST_TEXT;
 
 // M is at most 4,095.
 const MOST_VARIABLES: usize = 4095;
 
-// 2 and 3, for the first line; 0 for none.
-fn header_refusal(first: ReadLine) -> u32
-    requires { Shape first }
-    ensures { result ≡ refusal (any_header_tests (numbers_of first)) }
+// 2 and 3, for the first line.
+fn header_refusal(first: ReadLine) -> Result<(), Refusal>
+    ensures { answered result ≡ refusal (any_header_tests (numbers_of first)) }
 {
-    let counted = reader::count_refusal(first);
-    if counted != 0 {
-        return counted;
-    }
+    reader::count_refusal(first)?;
     let counts = reader::counts_of(first);
-    let most = lines::entry(first, 0);
+    let most = first.entry(0);
     if most > MOST_VARIABLES {
-        return 3;
+        return Err(Refusal::OverCeiling);
     }
-    if counts.inputs + counts.latches + counts.gates > most {
-        return 3;
+    if counts.variables() > most {
+        return Err(Refusal::OverCeiling);
     }
-    0
+    Ok(())
 }
 
-// The answer: the number of a refusal, or 0 with the counts, and M.
-#[repr(C)]
+// The counts, and M.
 #[derive(Clone, Copy)]
-pub struct ReadAnyAnswer {
-    pub number: u32,
+pub struct Drawn {
     pub counts: Counts,
     pub variables: usize,
-}
-
-fn refused(number: u32) -> ReadAnyAnswer
-    ensures { (result.number ≡ number) × (result.counts ≡ zeros) × (result.variables ≡ 0) }
-{
-    let refusal = reader::refused(number);
-    let zeros = refusal.counts;
-    ReadAnyAnswer {
-        number: number,
-        counts: zeros,
-        variables: 0,
-    }
 }
 
 // 20, 21, 22, then 9, then 10 for the table and for the list; and then both are filled.
@@ -71,30 +53,26 @@ fn read_listed(
     words: &[u16],
     table: &mut [u16],
     renumbered: &mut [u16],
-) -> ReadAnyAnswer
+) -> Result<Drawn, Refusal>
     requires { (at ≤ length text.now) × (most ≤ 4095) × Spoken counts words.now × (variables counts ≤ length owns.now) }
-    ensures { LeftBy (tested (after_tests (ending_bytes ending) (held most counts owns.now words.now) (from text.now at) ++ room_tests table.old renumbered.old (held most counts owns.now words.now)) (accepted (held most counts owns.now words.now))) table.old renumbered.old result.number result.counts result.variables table.new renumbered.new }
+    ensures { LeftBy (tested (after_tests (ending_bytes ending) (held most counts owns.now words.now) (from text.now at) ++ room_tests table.old renumbered.old (held most counts owns.now words.now)) (accepted (held most counts owns.now words.now))) table.old renumbered.old (answered result) (drawn_counts result) (drawn_variables result) table.new renumbered.new }
 {
     let mut order = [0u16; 4096];
-    let number = defined::judge_drawing(counts, most, owns, words, &mut order);
-    if number != 0 {
-        return refused(number);
-    }
+    defined::judge_drawing(counts, most, owns, words, &mut order)?;
     if !reader::ended(text, at, ending) {
-        return refused(9);
+        return Err(Refusal::Trailing);
     }
-    if table.len() < table::table_length(counts) {
-        return refused(10);
+    if table.len() < counts.table_length() {
+        return Err(Refusal::TooShort);
     }
     if renumbered.len() < most + 1 {
-        return refused(10);
+        return Err(Refusal::TooShort);
     }
     names::fill_drawing(counts, most, owns, words, &order, table, renumbered);
-    ReadAnyAnswer {
-        number: 0,
-        counts: counts,
+    Ok(Drawn {
+        counts,
         variables: most,
-    }
+    })
 }
 
 // All lines are read before 20, 21 and 22, so they are kept in two lists of this function's own.
@@ -106,9 +84,9 @@ fn read_body(
     most: usize,
     table: &mut [u16],
     renumbered: &mut [u16],
-) -> ReadAnyAnswer
+) -> Result<Drawn, Refusal>
     requires { (at ≤ length text.now) × (most ≤ 4095) × Bounded counts }
-    ensures { LeftBy (further (room_tests table.old renumbered.old) (read_drawing (ending_bytes ending) most counts (from text.now at))) table.old renumbered.old result.number result.counts result.variables table.new renumbered.new }
+    ensures { LeftBy (further (room_tests table.old renumbered.old) (read_drawing (ending_bytes ending) most counts (from text.now at))) table.old renumbered.old (answered result) (drawn_counts result) (drawn_variables result) table.new renumbered.new }
 {
     let mut owns = [0u32; 4095];
     let mut words = [0u16; 7870];
@@ -120,57 +98,38 @@ fn read_body(
         2 * most + 1,
         &mut owns,
         &mut words,
-    );
-    if listed.number != 0 {
-        return refused(listed.number);
-    }
-    let next = listed.at;
-    let lines = listed.line;
-    let length = listed.word;
+    )?;
     read_listed(
         text,
-        next,
+        listed.at,
         ending,
         counts,
         most,
-        &owns[..lines],
-        &words[..length],
+        &owns[..listed.line],
+        &words[..listed.word],
         table,
         renumbered,
     )
 }
 
 // Every line has the first one's ending.
-fn read_ended(
-    text: &[u8],
-    ending: Ending,
-    first: ReadLine,
-    table: &mut [u16],
-    renumbered: &mut [u16],
-) -> ReadAnyAnswer
-    requires { LineFound text.now (first_line (ending_bytes ending) text.now) first × (ending_of text.now ≡ ending_bytes ending) }
-    ensures { ReadingAny text.now table.old renumbered.old result.number result.counts result.variables table.new renumbered.new }
+pub fn read_any(text: &[u8], table: &mut [u16], renumbered: &mut [u16]) -> Result<Drawn, Refusal>
+    ensures { ReadingAny text.now table.old renumbered.old (answered result) (drawn_counts result) (drawn_variables result) table.new renumbered.new }
 {
     if text.len() > MOST_TEXT {
-        return refused(1);
+        return Err(Refusal::TextTooLong);
     }
-    let in_header = header_refusal(first);
-    if in_header != 0 {
-        return refused(in_header);
-    }
-    let counts = reader::counts_of(first);
-    let most = lines::entry(first, 0);
-    read_body(text, first.next, ending, counts, most, table, renumbered)
-}
-
-// The first line decides: byte 10 where it is a line with that ending, else bytes 13 and 10.
-pub fn read_any(text: &[u8], table: &mut [u16], renumbered: &mut [u16]) -> ReadAnyAnswer
-    ensures { ReadingAny text.now table.old renumbered.old result.number result.counts result.variables table.new renumbered.new }
-{
-    let first = reader::header(text, Ending::Newline);
-    if first.count != 0 {
-        return read_ended(text, Ending::Newline, first, table, renumbered);
-    }
-    let office = reader::header(text, Ending::OfficeNewline);
-    read_ended(text, Ending::OfficeNewline, office, table, renumbered)
+    let opening = reader::opening_of(text);
+    header_refusal(opening.first)?;
+    let counts = reader::counts_of(opening.first);
+    let most = opening.first.entry(0);
+    read_body(
+        text,
+        opening.first.next,
+        opening.ending,
+        counts,
+        most,
+        table,
+        renumbered,
+    )
 }

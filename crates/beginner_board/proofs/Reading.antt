@@ -1,5 +1,5 @@
 -- From the reader's two passes to the beginners' reader: the words of a board are judged before one of them is stored. Assumes nothing.
-use mathlib.Core.Path.{◌≡◌, sym, ap, ◌∙◌}
+use mathlib.Core.Path.{◌≡◌, ap, ◌∙◌}
 use mathlib.Core.List.{List}
 use Prim.Native.Nat.{ℕ, ◌<◌, ◌≤◌}
 use native.Mathlib.Omega.{arith}
@@ -13,8 +13,10 @@ use Rattle.text.specs.Text.{magic, circuit_lines, ending_of}
 use Rattle.text.specs.Calls.{read_into, zeros}
 use Rattle.text.proofs.Answers.{read_stops, read_short, read_fits}
 use Rattle.lines.specs.LinesInCode.{from}
-use Rattle.reader.specs.declared.Judgement.{Judgement}
-use Rattle.reader.specs.declared.Judgement.TheVariants.{Refused}
+use Rattle.std.specs.Prelude.{Err}
+use Rattle.circuit.specs.declared.Refusal.{Refusal}
+use Rattle.circuit.specs.Answer.{number_of}
+use Rattle.circuit.proofs.Answering.{numbered}
 use Rattle.reader.specs.ReaderInCode.{BodyAt, TextJudged, body_words, stand, Fillable}
 use Rattle.reader.proofs.Answering.{judged_read, body_read, body_long, body_fillable}
 use Rattle.beginners.specs.Rules.{small_tests, feed_tests}
@@ -45,23 +47,23 @@ module _ {ending : List ℕ} (text : List ℕ) (decided : ending_of text ≡ end
 -- ---- the answers, in the order of the refusals
 
 module _ {ending : List ℕ} (text table : List ℕ) (decided : ending_of text ≡ ending) where
-  pub judged_refused : {j : Judgement} → TextJudged magic ending (circuit_lines ending) text j → {m n : ℕ} {c : Counts} → j ≡ Refused m → n ≡ m → c ≡ zeros → ReadingBeginners text table n c table
-  judged_refused t e q k = rw (q, k) (beginners_stops text table (read_stops table (judged_read text decided t e)))
+  pub judged_refused : (r : Refusal) → TextJudged magic ending (circuit_lines ending) text (Err r) → ReadingBeginners text table (number_of r) zeros table
+  judged_refused r t = beginners_stops text table (read_stops table (judged_read text decided r t))
 
   module _ {c : Counts} {at : ℕ} (here : BodyAt magic ending (circuit_lines ending) text c at) where
-    pub table_refused : {n : ℕ} {z : Counts} → n ≡ 10 → z ≡ zeros → length table < table_length c → ReadingBeginners text table n z table
-    table_refused q k s = rw (q, k) (beginners_stops text table (read_short table (body_read text decided here) s))
+    pub table_refused : length table < table_length c → ReadingBeginners text table 10 zeros table
+    table_refused s = beginners_stops text table (read_short table (body_read text decided here) s)
 
     module _ (room : table_length c ≤ length table) where
       into : read_into text table ≡ accepted (record { counts = c; words = body_words (circuit_lines ending c) (kinds c) (from text at) })
       into = read_fits table (body_read text decided here) room
 
-      pub large_board : {k n : ℕ} {z : Counts} → k ≡ refusal (small_tests c) → (k ≡ 0 → ⊥) → n ≡ k → z ≡ zeros → ReadingBeginners text table n z table
-      large_board {k} e h q i = rw (q, i) (beginners_outside text table into k (large_refused c _ e h) h)
+      pub large_board : (r : Refusal) → number_of r ≡ refusal (small_tests c) → ReadingBeginners text table (number_of r) zeros table
+      large_board r e = beginners_outside text table into (number_of r) (large_refused c _ e (numbered r)) (numbered r)
 
-      module _ (small : 0 ≡ refusal (small_tests c)) (own : List ℕ) {filled : List ℕ} (f : filled ≡ over (body_words (circuit_lines ending c) (kinds c) (from text at)) own) {k : ℕ} (e : k ≡ refusal (feed_tests c filled)) where
-        pub badly_fed : {n : ℕ} {z : Counts} → (k ≡ 0 → ⊥) → n ≡ k → z ≡ zeros → ReadingBeginners text table n z table
-        badly_fed h q i = rw (q, i) (beginners_outside text table into k (feed_decides c _ small (own_feed text decided here own f e)) h)
+      module _ (small : 0 ≡ refusal (small_tests c)) (own : List ℕ) {filled : List ℕ} (f : filled ≡ over (body_words (circuit_lines ending c) (kinds c) (from text at)) own) where
+        pub badly_fed : (r : Refusal) → number_of r ≡ refusal (feed_tests c filled) → ReadingBeginners text table (number_of r) zeros table
+        badly_fed r e = beginners_outside text table into (number_of r) (feed_decides c _ small (own_feed text decided here own f e)) (numbered r)
 
-        pub board_read : k ≡ 0 → {table' : List ℕ} → table' ≡ over (body_words (circuit_lines ending c) (kinds c) (from text at)) table → ReadingBeginners text table 0 c table'
-        board_read z g = rw g (beginners_accepted text table into (feed_decides c _ small (sym z ∙ own_feed text decided here own f e)))
+        pub board_read : 0 ≡ refusal (feed_tests c filled) → {table' : List ℕ} → table' ≡ over (body_words (circuit_lines ending c) (kinds c) (from text at)) table → ReadingBeginners text table 0 c table'
+        board_read z g = rw g (beginners_accepted text table into (feed_decides c _ small (own_feed text decided here own f z)))

@@ -1,16 +1,36 @@
 -- The refusals of a beginners' run, in order. Assumes nothing.
-use mathlib.Core.Path.{◌≡◌}
+use mathlib.Core.Path.{◌≡◌, ap, ◌∙◌}
 use mathlib.Core.List.{List}
-use Prim.Native.Nat.{ℕ, ◌<◌, ◌≤◌}
+use mathlib.Core.Bool.{Bool}
+use Prim.Native.Nat.{ℕ, ◌+◌, ◌*◌, ◌<◌, ◌≤◌}
+use native.Mathlib.Nat.{zero-add, one-mul}
+use lib.ListN.{get_or}
+use Rattle.three.specs.Lists.{every}
+use Rattle.three.proofs.Lists.{every_ext}
 use borrow.Author.Tests.{le-leb, lt-leb}
 use Rattle.circuit.specs.declared.Counts.{Counts}
 use Rattle.circuit.specs.Refusal.{refusal}
 use Rattle.circuit.specs.Table.{board_tests}
 use Rattle.circuit.proofs.Refusals.{stops, past, none, refuses_whole, none_past}
 use Rattle.circuit.proofs.Legality.{board_numbered}
-use Rattle.beginners.specs.Rules.{small_tests, feed_tests, beginners_tests}
+use Rattle.beginners.specs.Rules.{small_tests, varies, feed_tests, beginners_tests}
 use Rattle.beginners.specs.Calls.{buffer_tests, chain_beginners_tests}
 use Rattle.beginners.proofs.Rules.{beginners_numbered, large_refused, feed_decides}
+
+-- ---- literals one every step
+
+varies_at : (table : List ℕ) {p q : ℕ} → p ≡ q → varies (get_or table p 0) ≡ varies (get_or table q 0)
+varies_at table e = ap (λ (n : ℕ). varies (get_or table n 0)) e
+
+module _ (count : ℕ) (table : List ℕ) {l : Bool} where
+  -- from the first word on, and one after the other
+  pub from_first : (step : ℕ) → l ≡ every count (λ i. varies (get_or table (0 + step * i) 0)) → l ≡ every count (λ i. varies (get_or table (step * i) 0))
+  from_first step e = e ∙ every_ext count _ _ (λ i h. varies_at table (zero-add (step * i)))
+
+  pub in_turn : (at : ℕ) → l ≡ every count (λ i. varies (get_or table (at + 1 * i) 0)) → l ≡ every count (λ i. varies (get_or table (at + i) 0))
+  in_turn at e = e ∙ every_ext count _ _ (λ i h. varies_at table (ap (λ (n : ℕ). at + n) (one-mul i)))
+
+-- ---- in order
 
 module _ (c : Counts) (table : List ℕ) (n : ℕ) where
   abbrev number : ℕ

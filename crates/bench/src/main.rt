@@ -1,7 +1,7 @@
 // The bench circuits (specification, 9): each text is read and run by the code, and its line shows what came of it.
 #![tactic(auto)]
 
-use circuit::Counts;
+use cubes::{Chain, ChainRefusal};
 use std::io::Stdout;
 
 const T: [u8; 20] = *b"aag 1 0 1 1 0\n2 3\n2\n";
@@ -42,93 +42,56 @@ fn say_byte(output: Stdout, bytes: &[u8], at: usize) {
 }
 
 fn say_five(output: Stdout, bytes: &[u8]) {
-    say_byte(output, bytes, 0);
-    say_byte(output, bytes, 1);
-    say_byte(output, bytes, 2);
-    say_byte(output, bytes, 3);
-    say_byte(output, bytes, 4);
+    for at in 0..5 {
+        say_byte(output, bytes, at);
+    }
 }
 
-// What came of a text, its chain and its judgement: the number is that of the first call that refuses.
+// What came of a text that nothing refuses: its chain, and how many latches are settled.
 #[derive(Clone, Copy)]
-struct RunAnswer {
-    number: u32,
-    cubes: usize,
-    back: usize,
+struct Run {
+    chain: Chain,
     settled: usize,
 }
 
-fn refused(number: u32) -> RunAnswer {
-    RunAnswer {
-        number,
-        cubes: 0,
-        back: 0,
-        settled: 0,
-    }
-}
-
-// The chain of a circuit, and the judgement of what it left; 15 has its count of cubes.
-fn chain_and_judge(
-    counts: Counts,
-    table: &[u16],
-    w: usize,
-    cubes: &mut [u8],
-    verdict: &mut [u8],
-    settled: &mut [u8],
-) -> RunAnswer {
-    let chain = chained::chain(counts, table, w, cubes);
-    let n = chain.cubes;
-    let j = chain.back;
-    if chain.number != 0 {
-        return RunAnswer {
-            number: chain.number,
-            cubes: n,
-            back: j,
-            settled: 0,
-        };
-    }
-    let judged = judged::judge(counts, table, cubes, n, j, verdict, settled);
-    RunAnswer {
-        number: judged.number,
-        cubes: n,
-        back: j,
-        settled: judged.settled,
-    }
-}
-
-// Reads the text and runs its circuit; a text that is refused answers the reader's number.
+// Reads the text, runs its circuit and judges what the chain left; the refusal is that of the first call that refuses.
 fn read_and_run(
     text: &[u8],
     w: usize,
     cubes: &mut [u8],
     verdict: &mut [u8],
     settled: &mut [u8],
-) -> RunAnswer {
+) -> Result<Run, ChainRefusal> {
     let mut table = [0u16; 16];
-    let read = reader::read(text, &mut table);
-    if read.number != 0 {
-        return refused(read.number);
-    }
-    let counts = read.counts;
-    chain_and_judge(counts, &table, w, cubes, verdict, settled)
+    let counts = reader::read(text, &mut table)?;
+    let chain = chained::chain(counts, &table, w, cubes)?;
+    let n = chain.cubes;
+    let j = chain.back;
+    let settled = judged::judge(counts, &table, cubes, n, j, verdict, settled)?;
+    Ok(Run { chain, settled })
 }
 
-// The answer, the first five bytes of the cube buffer, and the first of the verdict and of the settled record.
+// The answer, with n where there was no room for a cube more, the first five bytes of the cube buffer, and the first of the verdict and of the settled record.
 fn say_line(
     output: Stdout,
     name: &[u8],
     w: usize,
-    answer: RunAnswer,
+    answer: Result<Run, ChainRefusal>,
     cubes: &[u8],
     verdict: &[u8],
     settled: &[u8],
 ) {
+    let (number, n, j, s) = match answer {
+        Ok(run) => (0, run.chain.cubes, run.chain.back, run.settled),
+        Err(ChainRefusal::Refused(refusal)) => (refusal.number(), 0, 0, 0),
+        Err(ChainRefusal::Full(full)) => (15, full.cubes, 0, 0),
+    };
     say(output, name);
     say_number(output, b" w ", w as u64);
-    say_number(output, b": number ", answer.number as u64);
-    say_number(output, b" n ", answer.cubes as u64);
-    say_number(output, b" j ", answer.back as u64);
-    say_number(output, b" s ", answer.settled as u64);
+    say_number(output, b": number ", number as u64);
+    say_number(output, b" n ", n as u64);
+    say_number(output, b" j ", j as u64);
+    say_number(output, b" s ", s as u64);
     say(output, b" cubes");
     say_five(output, cubes);
     say(output, b" verdict");

@@ -1,3 +1,2 @@
 pub mod PuttingGates
 pub mod RowLines
-pub mod WrittenBinary

@@ -1,47 +1,48 @@
--- Laws of the line of a latch or a lamp in the binary form. Assumes nothing.
+-- Laws of the row of a kind in the binary form. Assumes nothing.
 use mathlib.Core.Path.{◌≡◌, refl, ◌∙◌, ap}
-use mathlib.Core.List.{List, [], ◌∷◌}
-use Prim.Native.Nat.{ℕ, zero, suc, ◌+◌, ◌≤◌, ◌<◌}
 use native.Mathlib.Omega.{arith}
+use mathlib.Core.List.{List, [], ◌∷◌}
+use Prim.Native.Nat.{ℕ, ◌+◌, ◌<◌}
 use lib.ListN.{get_or}
-use Rattle.circuit.specs.Table.{width}
+use Rattle.text.specs.declared.LineKind.{LineKind}
+use Rattle.text.specs.declared.LineKind.TheVariants.{Input, Latch, Lamp, Gate}
 use Rattle.text.specs.KindsInCode.{coded}
 use Rattle.text.specs.Line.{line_text}
 use Rattle.text.specs.Text.{shown}
 use Rattle.writer.specs.declared.LineNumbers.{LineNumbers}
-use Rattle.writer.specs.WriterInCode.{and_more, Shows}
+use Rattle.writer.specs.declared.LineNumbers.TheVariants.{One, Two}
 use Rattle.writer.proofs.WrittenLine.{word_first, word_second}
 use Rattle.binary.specs.Binary.{row_bytes}
-use Rattle.binary_writer.specs.BinaryWriterInCode.{LatchRow}
+use Rattle.binary_writer.specs.declared.GateDifferences.{GateDifferences}
+use Rattle.binary_writer.specs.declared.Row.TheVariants.{Nothing, Line, Differences}
+use Rattle.binary_writer.specs.BinaryWriterInCode.{Differ, LatchRow, Rows}
+use Rattle.binary_writer.proofs.PuttingGates.{bytes_gate, small_gate}
 
-pub latch_plain_lem : {own next reset : ℕ} → next < 10000 → reset ≡ 0 → LatchRow own next reset (record { more = 0; first = next; second = 0; third = 0; words = 2 })
-unfolding and_more shown
-latch_plain_lem n e = record { same = rw e; wide = refl; small = omega arith }
+pub latch_plain_lem : {own next reset : ℕ} → next < 10000 → reset ≡ 0 → LatchRow own next reset (One next)
+unfolding shown
+latch_plain_lem n e = record { same = rw e; small = n }
 
-pub latch_given : {own next reset second : ℕ} → next < 10000 → second < 10000 → shown own reset ≡ second ∷ [] → LatchRow own next reset (record { more = 1; first = next; second = second; third = 0; words = 2 })
-unfolding and_more
-latch_given n s e = record { same = rw e; wide = refl; small = omega arith }
+pub latch_given : {own next reset second : ℕ} → next < 10000 → second < 10000 → shown own reset ≡ second ∷ [] → LatchRow own next reset (Two next second)
+latch_given n s e = record { same = rw e; small = (n, s) }
 
--- a latch or a lamp has a word, and a latch two
-pub some_word : (k own : ℕ) → 1 ≤ k → k ≤ 2 → 1 ≤ width (coded k own)
-unfolding coded width
-some_word zero own l h = absurd (omega arith)
-some_word (suc zero) own l h = omega arith
-some_word (suc (suc zero)) own l h = omega arith
-some_word (suc (suc (suc k))) own l h = absurd (omega arith)
+-- the row of a kind whose words stand at word `at`
+module _ {k : LineKind} (own : ℕ) (words : List ℕ) (at : ℕ) where
+  pub row_input : k ≡ Input → Rows k own words at Nothing
+  unfolding row_bytes coded
+  row_input e = rw e (record { same = refl; small = tt })
 
-pub is_latch : (k : ℕ) → 1 ≤ k → k ≤ 2 → (k ≡ 2 → ⊥) → k ≡ 1
-is_latch k l h f = omega arith
+  pub row_lamp : k ≡ Lamp → get_or words at 0 < 10000 → Rows k own words at (Line (One (get_or words at 0)))
+  unfolding row_bytes coded
+  row_lamp e h = rw e (record { same = rw (word_first own words at); small = h })
 
-pub two_words : {k : ℕ} (own : ℕ) → k ≡ 1 → width (coded k own) ≡ 2
-unfolding coded width
-two_words own e = rw e
+  pub row_latch : {line : LineNumbers} → k ≡ Latch → LatchRow own (get_or words at 0) (get_or words (at + 1) 0) line → Rows k own words at (Line line)
+  unfolding row_bytes coded
+  row_latch e l = rw e (record { same = ap line_text (l.same ∙ rw (word_first own words at, word_second own words at)); small = l.small })
 
-module _ (own : ℕ) (words : List ℕ) (at : ℕ) where
-  pub shows_lamp : {k : ℕ} → k ≡ 2 → get_or words at 0 < 10000 → Shows row_bytes k own words at (record { more = 0; first = get_or words at 0; second = 0; third = 0; words = 1 })
-  unfolding and_more row_bytes coded width
-  shows_lamp e h = rw e (record { row = record { same = rw (word_first own words at); width = refl }; small = omega arith })
-
-  pub shows_latch : {k : ℕ} {line : LineNumbers} → k ≡ 1 → LatchRow own (get_or words at 0) (get_or words (at + 1) 0) line → Shows row_bytes k own words at line
-  unfolding row_bytes coded width
-  shows_latch e l = rw e (record { row = record { same = ap line_text (l.same ∙ rw (word_first own words at, word_second own words at)); width = l.wide }; small = l.small })
+  pub row_gate : {d : GateDifferences} → k ≡ Gate → own < 10000 → (get_or words at 0 < own) × (get_or words (at + 1) 0 < own)
+      → Differ own (get_or words at 0) (get_or words (at + 1) 0) d → Rows k own words at (Differences d)
+  unfolding row_bytes coded
+  row_gate e o below d = rw e (record {
+    same = rw (word_first own words at, word_second own words at) (bytes_gate _ _ _ d);
+    small = small_gate _ _ _ d below.0 below.1 (omega arith);
+  })

@@ -12,13 +12,14 @@ use Rattle.three.specs.Record.{pack}
 use Rattle.three.proofs.Loops.{over_paste}
 use Rattle.circuit.specs.declared.Counts.{Counts}
 use Rattle.circuit.specs.Table.{circuit_of}
-use Rattle.circuit.specs.RulesInCode.{Legal}
-use Rattle.chain.specs.declared.Chain.{Chain}
+use Rattle.std.specs.Prelude.{Result, Ok}
+use Rattle.cubes.specs.declared.Chain.{Chain}
+use Rattle.cubes.specs.declared.NoRoom.{NoRoom}
 use Rattle.cubes.specs.Run.{blocked, start as start_of, stops, cube_at, run}
 use Rattle.stored.specs.CubesInCode.{start_fields, raised_bytes}
 use Rattle.cubes.specs.Chain.{room_in, stored_cubes, back_to}
 use Rattle.cubes.specs.OutcomesInCode.{has_stopped}
-use Rattle.chain.specs.ChainInCode.{ChainMade, Followable}
+use Rattle.chain.specs.ChainInCode.{made_cubes, ChainMade, Followable}
 use Rattle.stored.proofs.Raising.{raised_packed}
 use Rattle.stored.proofs.Keeping.{behind_one}
 use Rattle.cubes.proofs.Merging.{over_over, length_over}
@@ -52,10 +53,9 @@ module _ (c : Counts) (words : List ℕ) (w : ℕ) (buffer start cubes : List �
   unfolding room_in
   same_room = ap (λ (n : ℕ). n / cube_bytes c.latches) start_length
 
-  pub start_followable : Legal c words → blocked (circuit_of c words) (start_of (circuit_of c words)) ≡ false → length buffer ≤ 65536 → (room : ℕ) → room ≡ length cubes / len → Followable c words len room start cubes
+  pub start_followable : blocked (circuit_of c words) (start_of (circuit_of c words)) ≡ false → length buffer ≤ 65536 → (room : ℕ) → room ≡ length cubes / len → Followable c words len room start cubes
   unfolding room_in
-  start_followable legal free small room er = record {
-    legal = legal;
+  start_followable free small room er = record {
     free = free;
     size = size;
     has_room = er ∙ ap (λ (n : ℕ). length cubes / n) size;
@@ -65,20 +65,20 @@ module _ (c : Counts) (words : List ℕ) (w : ℕ) (buffer start cubes : List �
     begun = begun ∙ sym (ap (over (pack_cube false (start_fields words c.latches))) begun ∙ over_over _ _ buffer (omega arith));
   }
 
-  pub chained_from : (r : Chain) (cubes' : List ℕ) → ChainMade c words w cubes r cubes' → 1 ≤ r.count → ChainMade c words w buffer r cubes'
+  pub chained_from : (r : Result Chain NoRoom) (cubes' : List ℕ) → ChainMade c words w cubes r cubes' → 1 ≤ made_cubes r → ChainMade c words w buffer r cubes'
   chained_from r cubes' h some = record {
     closes = rw same_room at h.closes;
     counts = rw same_room at h.counts;
     goes_back = rw same_room at h.goes_back;
     fills =
-        h.fills ∙ ap (over (pack_cubes (marked w) (cube_at (circuit_of c words) w) r.count)) begun
+        h.fills ∙ ap (over (pack_cubes (marked w) (cube_at (circuit_of c words) w) (made_cubes r))) begun
         ∙ over_over (pack_cube false (start_fields words c.latches)) _ buffer
-        (omega (arith, start_long, records_sized c.latches (marked w) (cube_at (circuit_of c words) w) (cubes_sized c words w) r.count, behind_one (cube_bytes c.latches) some));
+        (omega (arith, start_long, records_sized c.latches (marked w) (cube_at (circuit_of c words) w) (cubes_sized c words w) (made_cubes r), behind_one (cube_bytes c.latches) some));
   }
 
 -- where a constraint is 0 in cube 0 nothing is stored
 pub chained_none : (c : Counts) (words : List ℕ) (w : ℕ) (buffer : List ℕ) → blocked (circuit_of c words) (start_of (circuit_of c words)) ≡ true
-    → ChainMade c words w buffer (record { stopped = true; count = 0; back = 0 }) buffer
+    → ChainMade c words w buffer (Ok (record { cubes = 0; back = 0 })) buffer
 unfolding has_stopped stored_cubes back_to pack_cubes tabulate flatten over
 chained_none c words w buffer dead =
     let e : run (circuit_of c words) w (room_in c buffer) ≡ stops 0 0 = run_dead (circuit_of c words) w dead (room_in c buffer) in

@@ -1,6 +1,5 @@
 -- The loop that follows the chain: what each call asks and gives, and the ways out. Assumes nothing.
 use mathlib.Core.Path.{◌≡◌, refl, ap, ◌∙◌}
-use mathlib.Core.Bool.{true, false}
 use mathlib.Core.List.{List}
 use Prim.Native.Nat.{ℕ, suc, ◌+◌, ◌*◌, ◌-◌, ◌<◌, ◌≤◌}
 use native.Mathlib.Nat.{suc-mul, one-mul, mul_comm, mul-le-mul_right, add-sub_of_le, div-mul-le_self, le-div_iff_mul-le}
@@ -10,6 +9,7 @@ use lib.Seq.{paste, length-paste}
 use Rattle.three.specs.Lists.{first}
 use Rattle.three.specs.Record.{pack, unpack}
 use Rattle.three.specs.RecordInCode.{IsRecord}
+use Rattle.std.specs.Prelude.{Option, Some, None, Ok, Err}
 use Rattle.circuit.specs.declared.Counts.{Counts}
 use Rattle.circuit.specs.Table.{circuit_of}
 use Rattle.chain.specs.declared.Progress.{Progress}
@@ -32,6 +32,7 @@ module _ (c : Counts) (words : List ℕ) (w len room : ℕ) (start buffer : List
   -- the loop's invariant
   pub record Turn (count : ℕ) (held state cubes values b : List ℕ) : Type 0 where
     pub given : Followable c words len room start buffer
+    pub few : c.latches ≤ 512
     pub going : Going c words w buffer count held state cubes values
     pub within : count ≤ room
     pub long : length b ≡ longest_cube
@@ -43,11 +44,8 @@ module _ (c : Counts) (words : List ℕ) (w len room : ℕ) (start buffer : List
     abbrev f : Followable c words len room start buffer
     f = t.given
 
-    pub few_latches : c.latches ≤ 512
-    few_latches = f.legal.bounded.latches
-
     pub few_bytes : len ≤ longest_cube
-    few_bytes = omega (arith, f.size, cube_few few_latches)
+    few_bytes = omega (arith, f.size, cube_few t.few)
 
     some_cubes : 1 ≤ count
     some_cubes = omega (arith, g.counts)
@@ -61,18 +59,15 @@ module _ (c : Counts) (words : List ℕ) (w len room : ℕ) (start buffer : List
     some_byte : 1 ≤ len
     some_byte = omega (arith, f.size, cube_some c.latches)
 
-    pub count_within : count ≤ 65536
-    count_within = omega (arith, mul-le-mul_right count some_byte, mul_comm count len, one-mul count, cubes_fit, kept_length, f.small)
-
     pub state_record : IsRecord c.latches state
-    state_record = last_record c words w buffer g few_latches
+    state_record = last_record c words w buffer g t.few
 
     pub held_room : cube_bytes c.latches ≤ length held
     held_room = omega (arith, few_bytes, f.size, g.broad)
 
     -- what `reach` leaves
     pub reached : (b' : List ℕ) → b' ≡ paste b 0 (kept_bytes (cube_bytes c.latches) held (pack (next_cube (circuit_of c words) (unpack c.latches state)))) (cube_bytes c.latches) → Reached c words w buffer g b'
-    reached b' e = reached_b c words w buffer g few_latches b b' e
+    reached b' e = reached_b c words w buffer g t.few b b' e
 
     pub reached_long : (next b' : List ℕ) → b' ≡ paste b 0 (kept_bytes (cube_bytes c.latches) held next) (cube_bytes c.latches) → length b' ≡ longest_cube
     reached_long next b' e =
@@ -80,27 +75,27 @@ module _ (c : Counts) (words : List ℕ) (w len room : ℕ) (start buffer : List
 
     -- b as a record of latches
     pub reached_record : (b' : List ℕ) → Reached c words w buffer g b' → length b' ≡ longest_cube → IsRecord c.latches b'
-    reached_record b' r long' = b_record c words w buffer g b' r few_latches long'
+    reached_record b' r long' = b_record c words w buffer g b' r t.few long'
 
-    module _ (b' : List ℕ) (r : Reached c words w buffer g b') (long' : length b' ≡ longest_cube) (back : ℕ)
-        (sought : back ≡ gone_to (blocked (circuit_of c words) (unpack c.latches b')) count (first count (λ k. covers_from len cubes (raised_bytes len 3 b') (k * len)))) where
-      gone : back ≡ gone_to (blocked (circuit_of c words) (Run.reached (circuit_of c words) (stage (circuit_of c words) w g.last))) count
+    module _ (b' : List ℕ) (r : Reached c words w buffer g b') (long' : length b' ≡ longest_cube) (o : Option ℕ)
+        (sought : o ≡ gone_to (blocked (circuit_of c words) (unpack c.latches b')) count (first count (λ k. covers_from len cubes (raised_bytes len 3 b') (k * len)))) where
+      gone : o ≡ gone_to (blocked (circuit_of c words) (Run.reached (circuit_of c words) (stage (circuit_of c words) w g.last))) count
           (first count (λ k. covers_from (cube_bytes c.latches) cubes (raised_bytes (cube_bytes c.latches) 3 b') (k * cube_bytes c.latches)))
-      gone = rw (f.size, b_read c words w buffer g b' r few_latches long') at sought
+      gone = rw (f.size, b_read c words w buffer g b' r t.few long') at sought
 
       -- the run is closed, or ended
-      pub stopped_now : back ≤ count → ChainMade c words w buffer (record { stopped = true; count = count; back = back }) cubes × (1 ≤ count)
+      pub stopped_now : (back : ℕ) → o ≡ Some back → ChainMade c words w buffer (Ok (record { cubes = count; back = back })) cubes × (1 ≤ count)
       unfolding stored_cubes has_stopped back_to
-      stopped_now h =
+      stopped_now back h =
           let e : run (circuit_of c words) w (room_in c buffer) ≡ stops count back =
-          rw (← f.has_room, ← add-sub_of_le t.within) (run_stays (circuit_of c words) w count (room - count) count back (stops_at c words w buffer g b' r gone h)) in
+          rw (← f.has_room, ← add-sub_of_le t.within) (run_stays (circuit_of c words) w count (room - count) count back (stops_at c words w buffer g b' r o gone back h)) in
           (record { closes = rw e; counts = rw e; goes_back = rw e; fills = g.stored }, some_cubes)
 
-      open_yet : count < back → run (circuit_of c words) w count ≡ full
-      open_yet h = goes_on c words w buffer g b' r gone h
+      open_yet : o ≡ None → run (circuit_of c words) w count ≡ full
+      open_yet h = goes_on c words w buffer g b' r o gone h
 
       -- no room is left
-      pub full_now : count < back → count ≡ room → ChainMade c words w buffer (record { stopped = false; count = count; back = 0 }) cubes × (1 ≤ count)
+      pub full_now : o ≡ None → count ≡ room → ChainMade c words w buffer (Err (record { cubes = count })) cubes × (1 ≤ count)
       unfolding stored_cubes has_stopped back_to
       full_now h e =
           let room= : count ≡ room_in c buffer = e ∙ f.has_room in
@@ -108,7 +103,7 @@ module _ (c : Counts) (words : List ℕ) (w len room : ℕ) (start buffer : List
           (record { closes = rw o; counts = rw (o) room=; goes_back = rw o; fills = g.stored }, some_cubes)
 
       -- or one cube more is stored
-      module _ (h : count < back) (more : count ≡ room → ⊥) where
+      module _ (h : o ≡ None) (more : count ≡ room → ⊥) where
         pub next_fits : count * len + len ≤ length buffer
         unfolding room_in
         next_fits =
@@ -126,16 +121,18 @@ module _ (c : Counts) (words : List ℕ) (w len room : ℕ) (start buffer : List
             → Turn after.count after.held after.last cubes' values' b'
         turn_next after cubes' values' a ready = record {
           given = f;
-          going = going_next c words w buffer g b' r (due w count) refl (open_yet h) after cubes' (rw f.size at a) few_latches values' ready (rw f.size at next_fits);
+          few = t.few;
+          going = going_next c words w buffer g b' r (due w count) refl (open_yet h) after cubes' (rw f.size at a) t.few values' ready (rw f.size at next_fits);
           within = omega (arith, a.counts, t.within);
           long = long';
         }
 
-  pub turn_first : Followable c words len room start buffer → (values b : List ℕ) → SwitchesX c values → length b ≡ longest_cube → Turn 1 (replicate longest_cube 0) start buffer values b
+  pub turn_first : Followable c words len room start buffer → c.latches ≤ 512 → (values b : List ℕ) → SwitchesX c values → length b ≡ longest_cube → Turn 1 (replicate longest_cube 0) start buffer values b
   unfolding room_in
-  turn_first f values b r l = record {
+  turn_first f few values b r l = record {
     given = f;
-    going = going_first c words w buffer f.free start buffer values f.legal.bounded.latches f.one f.starts f.begun r;
+    few = few;
+    going = going_first c words w buffer f.free start buffer values few f.one f.starts f.begun r;
     within = rw f.has_room ((le-div_iff_mul-le {k = cube_bytes c.latches} (cube_some c.latches)).1 (omega (arith, one-mul (cube_bytes c.latches), f.one)));
     long = l;
   }

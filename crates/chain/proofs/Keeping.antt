@@ -1,18 +1,18 @@
 -- Laws of the held-latch record: setting held latches to X and holding more of them, byte by byte. Assumes nothing.
 use mathlib.Core.Path.{◌≡◌, refl, sym, ap, ◌∙◌}
 use mathlib.Core.Bool.{Bool, true, false}
-use mathlib.Core.List.{List}
+use mathlib.Core.List.{List, ◌++◌}
 use Prim.Native.Nat.{ℕ, zero, suc, ◌+◌, ◌/◌, ◌%◌, ◌<◌, ◌≤◌}
-use native.Mathlib.Nat.{zero-add}
 use native.Mathlib.Omega.{arith}
 use lib.Bits.{bit_or, bit_xor, and_le_r}
 use lib.Dec.{eqb}
-use lib.ListN.{length, get_or, set}
+use lib.ListN.{length, get_or, set, take, drop}
 use lib.Seq.{paste, length-paste}
 use Rattle.three.specs.Value.{code, known}
-use Rattle.three.proofs.Loops.{Stored, stored_next, get_or_paste}
+use Rattle.three.proofs.Loops.{Stored, get_or_paste, front_length, front_at}
 use Rattle.three.proofs.Lists.{length_tabulate, get_or_tabulate}
 use Rattle.stored.specs.CubesInCode.{raised_bytes}
+use Rattle.stored.proofs.Filled.{filled_next, filled_front}
 use Rattle.cubes.specs.HeldInCode.{differing_byte}
 use Rattle.cubes.specs.Run.{due}
 use Rattle.chain.specs.ChainInCode.{widened_bytes, held_after}
@@ -56,13 +56,20 @@ module _ (len : ℕ) (held last b : List ℕ) where
   unfolding widened_bytes
   length_wide = length_tabulate len _
 
-  pub widen_next : len ≤ length held → (wider : List ℕ) (i d : ℕ) → Stored held 0 wide len wider i → i < len
-      → d ≡ differing_byte (get_or last i 0) (get_or b i 0) → Stored held 0 wide len (set wider i (bit_or (get_or wider i 0) d)) (i + 1)
-  unfolding widened_bytes
-  widen_next room wider i d s h e =
-      let kept : get_or wider i 0 ≡ get_or held i 0 = ap (λ l. get_or l i 0) s.same ∙ get_or_paste held 0 wide i i 0 (omega arith) (omega (arith, length_wide)) (omega arith) in
-      let seen : bit_or (get_or wider i 0) d ≡ get_or wide i 0 = rw (kept, e) (sym (get_or_tabulate len _ i 0 h)) in
-      rw zero-add at (stored_next held 0 wide len (omega arith) (omega (arith, length_wide)) wider i (bit_or (get_or wider i 0) d) 0 s h seen)
+  module _ (room : len ≤ length held) {wider : List ℕ} {i : ℕ} (s : Stored (take len held) 0 wide len wider i) where
+    long : length (take len held) ≡ len
+    long = front_length len held room
+
+    pub widen_next : {d : ℕ} → i < length (take len held) → d ≡ differing_byte (get_or last i 0) (get_or b i 0) → Stored (take len held) 0 wide len (set wider i (bit_or (get_or wider i 0) d)) (i + 1)
+    unfolding widened_bytes
+    widen_next {d} h e =
+        let kept : get_or wider i 0 ≡ get_or held i 0 =
+        ap (λ l. get_or l i 0) s.same ∙ get_or_paste (take len held) 0 wide i i 0 (omega arith) (omega (arith, length_wide, long)) (omega arith) ∙ front_at len held room i 0 h in
+        let seen : bit_or (get_or wider i 0) d ≡ get_or wide i 0 = rw (kept, e) (sym (get_or_tabulate len _ i 0 (omega (arith, long)))) in
+        filled_next long (omega (arith, length_wide)) s h seen
+
+    pub widen_last : length (take len held) ≤ i → wider ++ drop len held ≡ paste held 0 wide len
+    widen_last = filled_front long (omega (arith, length_wide)) s held
 
 -- ---- more latches held, or the same
 

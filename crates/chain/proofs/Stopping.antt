@@ -2,8 +2,8 @@
 use mathlib.Core.Path.{◌≡◌, refl, sym, ap, ◌∙◌}
 use mathlib.Core.Bool.{Bool, true, false, cond}
 use mathlib.Core.List.{List}
-use Prim.Native.Nat.{ℕ, suc, ◌+◌, ◌*◌, ◌<◌, ◌≤◌}
-use native.Mathlib.Numerals.{add-one}
+use Rattle.std.specs.Prelude.{Option, Some, None}
+use Prim.Native.Nat.{ℕ, suc, ◌*◌, ◌<◌, ◌≤◌}
 use native.Mathlib.Omega.{arith}
 use borrow.Author.Tests.{ltb-true, ltb-false, lt-ltb, le-ltb}
 use lib.Dec.{ltb}
@@ -27,37 +27,34 @@ use Rattle.cubes.proofs.Buffered.{cubes_sized}
 use Rattle.cubes.proofs.StoredCube.{few_bytes, latch_bytes}
 use Rattle.cubes.proofs.Marks.{sought_mark, cube_covers}
 use Rattle.cubes.proofs.Held.{Bytes, bytes_read, bytes_record}
-use Rattle.stored.specs.CubesInCode.{raised_bytes, covers_from}
+use Rattle.stored.specs.CubesInCode.{raised_bytes, covers_from, FoundFirst}
 use Rattle.stored.proofs.Raising.{raised_bytes_lem}
 use Rattle.chain.specs.ChainInCode.{gone_to}
 use Rattle.chain.proofs.Chaining.{Going, Reached, reach_sized, cube_bytes_lem}
 
--- ---- as the code tells it: r is what it read of the constraints, k what it found
+-- ---- as the code tells it: r is what it read of the constraints, o what it found
 
 module _ (n j : ℕ) {d r : Bool} (read : r ≡ d) where
-  pub gone_ended : r ≡ true → n ≡ gone_to d n j
+  pub gone_ended : r ≡ true → Some n ≡ gone_to d n j
   unfolding gone_to
   gone_ended e = let is : d ≡ true = sym read ∙ e in rw is
 
-  module _ (e : r ≡ false) {k : ℕ} (found : k ≡ j) where
-    free : d ≡ false
-    free = sym read ∙ e
+  pub gone_found : r ≡ false → (o : Option ℕ) → FoundFirst n j o → o ≡ gone_to d n j
+  unfolding gone_to
+  gone_found e (Some k) found = let free : d ≡ false = sym read ∙ e in rw (free, lt-ltb j n (omega (arith, found))) (ap Some found.0)
+  gone_found e None found = let free : d ≡ false = sym read ∙ e in rw (free, le-ltb j n found) refl
 
-    pub gone_closed : k < n → k ≡ gone_to d n j
-    unfolding gone_to
-    gone_closed h = rw (free, lt-ltb j n (omega arith)) found
+-- and as the run tells it
+abbrev told : Option ℕ → Found
+told (Some j) = at j
+told None = nowhere
 
-    pub gone_nowhere : n ≤ k → n + 1 ≡ gone_to d n j
-    unfolding gone_to
-    gone_nowhere h = rw (free, le-ltb j n (omega arith)) (add-one n)
-
-gone_where : (n : ℕ) (f : Found) {j : ℕ} → (j < n → f ≡ at j) × (n ≤ j → f ≡ nowhere) → (d : Bool) {r : ℕ} → r ≡ gone_to d n j
-    → (r ≤ n → cond d (at n) f ≡ at r) × (n < r → cond d (at n) f ≡ nowhere)
+gone_where : (n : ℕ) (f : Found) {j : ℕ} → (j < n → f ≡ at j) × (n ≤ j → f ≡ nowhere) → (d : Bool) → cond d (at n) f ≡ told (gone_to d n j)
 unfolding gone_to
-gone_where n f looked true e = (λ h. ap at (sym e), λ h. absurd (omega arith))
-gone_where n f {j} looked false {r} e = by_test (ltb j n)
-    (λ t. let is : r ≡ j = rw t at e in (λ h. looked.0 (ltb-true j n t) ∙ ap at (sym is), λ h. absurd (omega (arith, ltb-true j n t))))
-    (λ t. let is : r ≡ suc n = rw t at e in (λ h. absurd (omega arith), λ h. looked.1 (ltb-false j n t)))
+gone_where n f looked true = refl
+gone_where n f {j} looked false = by_test (ltb j n)
+    (λ t. rw t (looked.0 (ltb-true j n t)))
+    (λ t. rw t (looked.1 (ltb-false j n t)))
 
 module _ (c : Counts) (words : List ℕ) (w : ℕ) (buffer : List ℕ) {count : ℕ} {held state cubes values : List ℕ} (g : Going c words w buffer count held state cubes values)
     (b : List ℕ) (reach : Reached c words w buffer g b) where
@@ -105,15 +102,17 @@ module _ (c : Counts) (words : List ℕ) (w : ℕ) (buffer : List ℕ) {count : 
       × (suc g.last ≤ sought → search (cube_at circuit w) (suc g.last) (reached circuit here) ≡ nowhere)
   found = rw (← looked) at (search_first (cube_at circuit w) (reached circuit here) (suc g.last))
 
-  module _ {r : ℕ} (gone : r ≡ gone_to (blocked circuit (reached circuit here)) count sought) where
-    goes : (r ≤ suc g.last → back circuit w g.last ≡ at r) × (suc g.last < r → back circuit w g.last ≡ nowhere)
+  module _ (o : Option ℕ) (gone : o ≡ gone_to (blocked circuit (reached circuit here)) count sought) where
+    goes : back circuit w g.last ≡ told o
     unfolding back
-    goes = gone_where (suc g.last) _ found _ (gone ∙ ap (λ (n : ℕ). gone_to (blocked circuit (reached circuit here)) n sought) g.counts)
+    goes =
+        gone_where (suc g.last) _ found (blocked circuit (reached circuit here))
+        ∙ ap told (sym (gone ∙ ap (λ (n : ℕ). gone_to (blocked circuit (reached circuit here)) n sought) g.counts))
 
-    pub stops_at : r ≤ count → run circuit w count ≡ stops count r
+    pub stops_at : (j : ℕ) → o ≡ Some j → run circuit w count ≡ stops count j
     unfolding stepped
-    stops_at h = rw g.counts (run_step circuit w g.last g.open_yet (goes.0 (omega (arith, g.counts))))
+    stops_at j h = rw g.counts (run_step circuit w g.last g.open_yet (goes ∙ ap told h))
 
-    pub goes_on : count < r → run circuit w count ≡ full
+    pub goes_on : o ≡ None → run circuit w count ≡ full
     unfolding stepped
-    goes_on h = rw g.counts (run_step circuit w g.last g.open_yet (goes.1 (omega (arith, g.counts))))
+    goes_on h = rw g.counts (run_step circuit w g.last g.open_yet (goes ∙ ap told h))

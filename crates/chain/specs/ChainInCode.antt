@@ -1,5 +1,5 @@
 -- How the code keeps a run: held latches, one cube more, the chain; nothing here has to be believed. Assumes nothing.
-use Rattle.std.specs.Prelude.{◌≡◌, Bool, true, false, cond, List, ℕ, suc, ◌+◌, ◌*◌, ◌≤◌, ltb, length, get_or, replicate}
+use Rattle.std.specs.Prelude.{◌≡◌, Bool, true, false, cond, Option, Some, None, Result, Ok, Err, List, ℕ, ◌+◌, ◌*◌, ◌≤◌, ltb, length, get_or, replicate}
 use Rattle.std.specs.Int.Bits.{bit_or}
 use Rattle.std.proofs.Math.Seq.{paste}
 use Rattle.three.specs.Lists.{tabulate, over}
@@ -8,8 +8,8 @@ use Rattle.three.specs.Record.{pack}
 use Rattle.circuit.specs.declared.Counts.{Counts}
 use Rattle.chain.specs.declared.Progress.{Progress}
 use Rattle.circuit.specs.Table.{circuit_of}
-use Rattle.circuit.specs.RulesInCode.{Legal}
-use Rattle.chain.specs.declared.Chain.{Chain}
+use Rattle.cubes.specs.declared.Chain.{Chain}
+use Rattle.cubes.specs.declared.NoRoom.{NoRoom}
 use Rattle.cubes.specs.Run.{blocked, start, cube_at, run}
 use Rattle.cubes.specs.Buffer.{cube_bytes, pack_cube, pack_cubes, marked}
 use Rattle.cubes.specs.BufferInCode.{longest_cube}
@@ -34,20 +34,32 @@ pub record Advanced (d : Bool) (len : ℕ) (before : Progress) (cubes b : List �
   pub keeps : after.last ≡ paste before.last 0 (kept_bytes len after.held b) len
   pub stores : cubes' ≡ paste cubes (before.count * len) (raised_bytes len (code (known d)) after.last) len
 
--- where b goes after n cubes, j being the first of them that covers it: to n, an end, where a constraint is 0 in it, and to n + 1 where none covers it
-unfoldable pub gone_to : Bool → ℕ → ℕ → ℕ
-gone_to d n j = cond d n (cond (ltb j n) j (suc n))
+-- where b goes back to after n cubes, j being the first of them that covers it: to n, an end, where a constraint is 0 in it, and nowhere where none covers it
+unfoldable pub gone_to : Bool → ℕ → ℕ → Option ℕ
+gone_to d n j = cond d (Some n) (cond (ltb j n) (Some j) None)
+
+-- what a chain answers: whether it stopped, with how many cubes, and back to which, 0 where it did not stop
+abbrev pub made_stopped : Result Chain NoRoom → Bool
+made_stopped (Ok r) = true
+made_stopped (Err full) = false
+
+abbrev pub made_cubes : Result Chain NoRoom → ℕ
+made_cubes (Ok r) = r.cubes
+made_cubes (Err full) = full.cubes
+
+abbrev pub made_back : Result Chain NoRoom → ℕ
+made_back (Ok r) = r.back
+made_back (Err full) = 0
 
 -- a chain that is made in a buffer: what it answers, and the cubes in front of what stood there
-pub record ChainMade (c : Counts) (words : List ℕ) (w : ℕ) (buffer : List ℕ) (r : Chain) (cubes : List ℕ) : Type 0 where
-  pub closes : r.stopped ≡ has_stopped (run (circuit_of c words) w (room_in c buffer))
-  pub counts : r.count ≡ stored_cubes (room_in c buffer) (run (circuit_of c words) w (room_in c buffer))
-  pub goes_back : r.back ≡ back_to (run (circuit_of c words) w (room_in c buffer))
-  pub fills : cubes ≡ over (pack_cubes (marked w) (cube_at (circuit_of c words) w) r.count) buffer
+pub record ChainMade (c : Counts) (words : List ℕ) (w : ℕ) (buffer : List ℕ) (r : Result Chain NoRoom) (cubes : List ℕ) : Type 0 where
+  pub closes : made_stopped r ≡ has_stopped (run (circuit_of c words) w (room_in c buffer))
+  pub counts : made_cubes r ≡ stored_cubes (room_in c buffer) (run (circuit_of c words) w (room_in c buffer))
+  pub goes_back : made_back r ≡ back_to (run (circuit_of c words) w (room_in c buffer))
+  pub fills : cubes ≡ over (pack_cubes (marked w) (cube_at (circuit_of c words) w) (made_cubes r)) buffer
 
 -- cube 0, in which no constraint is 0, stands in a buffer of a size that 13 does not refuse
 pub record Followable (c : Counts) (words : List ℕ) (len room : ℕ) (start₀ cubes : List ℕ) : Type 0 where
-  pub legal : Legal c words
   pub free : blocked (circuit_of c words) (start (circuit_of c words)) ≡ false
   pub size : len ≡ cube_bytes c.latches
   pub has_room : room ≡ room_in c cubes

@@ -7,16 +7,16 @@ ghost use Rattle.three.specs.Lists.{first};
 ghost use Rattle.three.specs.Record.{unpack};
 ghost use Rattle.three.specs.RecordInCode.{IsRecord};
 ghost use Rattle.circuit.specs.Table.{circuit_of};
-ghost use Rattle.circuit.specs.RulesInCode.{Legal};
 ghost use Rattle.cubes.specs.Run.{due as is_due, blocked};
 ghost use Rattle.cubes.specs.Buffer.{cube_bytes};
 ghost use Rattle.cubes.specs.BufferInCode.{longest_cube};
 ghost use Rattle.cubes.specs.HeldInCode.{differing_byte};
 ghost use Rattle.three.specs.Value.{code, known};
 ghost use Rattle.stored.specs.CubesInCode.{raised_bytes, covers_from, SwitchesX};
-ghost use Rattle.chain.specs.ChainInCode.{held_after, widened_bytes, gone_to, Advanced, Followable, ChainMade};
+ghost use Rattle.chain.specs.ChainInCode.{held_after, widened_bytes, gone_to, made_cubes, Advanced, Followable, ChainMade};
 
-use circuit::Counts;
+use circuit::Board;
+use cubes::{Chain, NoRoom};
 use pass::Values;
 use stored::LONGEST_CUBE;
 
@@ -43,8 +43,8 @@ fn widen(held: &mut [u8; LONGEST_CUBE], a: &[u8], b: &[u8], len: usize)
     requires { (length held.old ≡ longest_cube) × (len ≤ longest_cube) × (len ≤ length a.now) × (len ≤ length b.now) }
     ensures { held.new ≡ paste held.old 0 (widened_bytes len held.old a.now b.now) len }
 {
-    for i in 0..len {
-        held[i] = held[i] | differing(a[i], b[i]);
+    for (i, byte) in held[..len].iter_mut().enumerate() {
+        *byte |= differing(a[i], b[i]);
     }
 }
 
@@ -94,50 +94,36 @@ impl Progress {
     }
 }
 
-// Where b, given as a record of latches, goes after n cubes: to n, an end, where a constraint is 0 in it; else to the first of the n that subsumes it, or to n + 1.
+// Where b, given as a record of latches, goes back to after n cubes: to n, an end, where a constraint is 0 in it; else to the first of the n that subsumes it, and where none does the run goes on.
 fn goes_to(
-    counts: Counts,
-    table: &[u16],
+    board: &Board<'_>,
     cubes: &[u8],
     len: usize,
     n: usize,
     b: &[u8],
     values: &mut Values,
-) -> usize
-    requires { Legal counts table.now × (n * len ≤ length cubes.now) × (n ≤ 65536) × (len ≤ longest_cube) × (len ≤ length b.now) × IsRecord counts.latches b.now × SwitchesX counts values.old }
-    ensures { (result ≡ gone_to (blocked (circuit_of counts table.now) (unpack counts.latches b.now)) n (first n (λ k. covers_from len cubes.now (raised_bytes len 3 b.now) (k * len)))) × SwitchesX counts values.new }
+) -> Option<usize>
+    requires { (n * len ≤ length cubes.now) × (len ≤ longest_cube) × (len ≤ length b.now) × IsRecord board.now.counts.latches b.now × SwitchesX board.now.counts values.old.bytes }
+    ensures { (result ≡ gone_to (blocked (circuit_of board.now.counts board.now.table.now) (unpack board.now.counts.latches b.now)) n (first n (λ k. covers_from len cubes.now (raised_bytes len 3 b.now) (k * len)))) × SwitchesX board.now.counts values.new.bytes }
 {
-    if stored::blocked(counts, table, b, values) {
-        return n;
+    if stored::blocked(board, b, values) {
+        return Some(n);
     }
-    let j = stored::find(cubes, len, n, b);
-    if j < n {
-        return j;
-    }
-    n + 1
-}
-
-// Stopped with `count` cubes, closed back to number `back` or, where that is `count`, ended; or no room for a cube more.
-#[derive(Clone, Copy)]
-pub struct Chain {
-    pub stopped: bool,
-    pub count: usize,
-    pub back: usize,
+    stored::find(cubes, len, n, b)
 }
 
 // Goes on from cube 0, which stands in the buffer, and whose latches are `start`, to the cube that falls inside a stored one or in which a constraint is 0, or as far as there is room.
 fn follow(
-    counts: Counts,
-    table: &[u16],
+    board: &Board<'_>,
     w: usize,
     len: usize,
     room: usize,
     start: [u8; LONGEST_CUBE],
     values: &mut Values,
     cubes: &mut [u8],
-) -> Chain
-    requires { Followable counts table.now len room start cubes.old × SwitchesX counts values.old }
-    ensures { ChainMade counts table.now w cubes.old result cubes.new × (1 ≤ result.count) }
+) -> Result<Chain, NoRoom>
+    requires { Followable board.now.counts board.now.table.now len room start cubes.old × SwitchesX board.now.counts values.old.bytes }
+    ensures { ChainMade board.now.counts board.now.table.now w cubes.old result cubes.new × (1 ≤ made_cubes result) }
 {
     let mut b = [0u8; LONGEST_CUBE];
     let mut progress = Progress {
@@ -148,43 +134,30 @@ fn follow(
     loop {
         let count = progress.count;
         let last = progress.last;
-        stored::reach(counts, table, &last, &progress.held, values, &mut b);
-        let back = goes_to(counts, table, cubes, len, count, &b, values);
-        if back <= count {
-            return Chain {
-                stopped: true,
-                count,
-                back,
-            };
+        stored::reach(board, &last, &progress.held, values, &mut b);
+        if let Some(back) = goes_to(board, cubes, len, count, &b, values) {
+            return Ok(Chain { cubes: count, back });
         }
         if count == room {
-            return Chain {
-                stopped: false,
-                count,
-                back: 0,
-            };
+            return Err(NoRoom { cubes: count });
         }
         progress = progress.advance(cubes, len, w, &b);
     }
 }
 
 // The cubes of a run, its n and its j; where a constraint is 0 in cube 0 there is none, and the buffer stays as it was.
-pub fn make_chain(counts: Counts, table: &[u16], w: usize, cubes: &mut [u8]) -> Chain
-    requires { Legal counts table.now × (cube_bytes counts.latches ≤ length cubes.old) × (length cubes.old ≤ 65536) }
-    ensures { ChainMade counts table.now w cubes.old result cubes.new }
+pub fn make_chain(board: &Board<'_>, w: usize, cubes: &mut [u8]) -> Result<Chain, NoRoom>
+    requires { (cube_bytes board.now.counts.latches ≤ length cubes.old) × (length cubes.old ≤ 65536) }
+    ensures { ChainMade board.now.counts board.now.table.now w cubes.old result cubes.new }
 {
     let mut start = [0u8; LONGEST_CUBE];
-    stored::store_start(table, counts.latches, &mut start);
-    let mut values = pass::fresh_values();
-    if stored::blocked(counts, table, &start, &mut values) {
-        return Chain {
-            stopped: true,
-            count: 0,
-            back: 0,
-        };
+    stored::store_start(board.table, board.counts.latches, &mut start);
+    let mut values = Values::fresh();
+    if stored::blocked(board, &start, &mut values) {
+        return Ok(Chain { cubes: 0, back: 0 });
     }
-    let len = stored::cube_bytes(counts.latches);
+    let len = stored::cube_bytes(board.counts.latches);
     stored::store_cube(mark(false), &start, len, cubes, 0);
     let room = cubes.len() / len;
-    follow(counts, table, w, len, room, start, &mut values, cubes)
+    follow(board, w, len, room, start, &mut values, cubes)
 }

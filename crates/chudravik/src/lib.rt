@@ -1,8 +1,11 @@
 // The C interface (include/chudravik.h): each public call under its C name, with the same contract, and nothing else.
 #![tactic(auto)]
 
+ghost use Rattle.std.specs.Prelude.{◌≡◌};
+ghost use Rattle.circuit.specs.Answer.{answered, answer_or};
 ghost use Rattle.tick.specs.Tick.{Ticked};
-ghost use Rattle.text.specs.Calls.{Reading, Writing};
+ghost use Rattle.text.specs.Calls.{zeros, Reading, Writing};
+ghost use Rattle.anyorder.specs.Answers.{drawn_counts, drawn_variables};
 ghost use Rattle.drawn.specs.Lines.{ReadingAny};
 ghost use Rattle.binary.specs.Calls.{BinaryReading, BinaryWriting};
 ghost use Rattle.cubes.specs.Chain.{Chained};
@@ -18,18 +21,98 @@ ghost use Rattle.asked.specs.Promise.{Suffices};
 ghost use Rattle.merging.specs.Call.{Merging};
 ghost use Rattle.merging.specs.Promise.{Narrowest};
 
-use anyorder::ReadAnyAnswer;
-use circuit::Counts;
-use cubes::{ChainAnswer, JudgeAnswer};
-use reader::ReadAnswer;
+use anyorder::Drawn;
+use circuit::{Counts, Refusal};
+use cubes::{ChainAnswer, ChainRefusal, JudgeAnswer};
 use sent::CoverAnswer;
-use writer::WriteAnswer;
+
+// Beside a refusal.
+const ZEROS: Counts = Counts {
+    inputs: 0,
+    latches: 0,
+    lamps: 0,
+    gates: 0,
+    bads: 0,
+    constraints: 0,
+};
+
+// What a reader answers in C.
+#[repr(C)]
+#[derive(Clone, Copy)]
+pub struct ReadAnswer {
+    pub number: u32,
+    pub counts: Counts,
+}
+
+impl From<Result<Counts, Refusal>> for ReadAnswer {
+    ghost from_gives = { λ r a. (a.number ≡ answered r) × (a.counts ≡ answer_or zeros r) };
+
+    fn from(answer: Result<Counts, Refusal>) -> ReadAnswer {
+        match answer {
+            Ok(counts) => ReadAnswer { number: 0, counts },
+            Err(refusal) => ReadAnswer {
+                number: refusal.number(),
+                counts: ZEROS,
+            },
+        }
+    }
+}
+
+// What the reader for any order answers in C: M besides.
+#[repr(C)]
+#[derive(Clone, Copy)]
+pub struct ReadAnyAnswer {
+    pub number: u32,
+    pub counts: Counts,
+    pub variables: usize,
+}
+
+impl From<Result<Drawn, Refusal>> for ReadAnyAnswer {
+    ghost from_gives = { λ r a. (a.number ≡ answered r) × (a.counts ≡ drawn_counts r) × (a.variables ≡ drawn_variables r) };
+
+    fn from(answer: Result<Drawn, Refusal>) -> ReadAnyAnswer {
+        match answer {
+            Ok(drawn) => ReadAnyAnswer {
+                number: 0,
+                counts: drawn.counts,
+                variables: drawn.variables,
+            },
+            Err(refusal) => ReadAnyAnswer {
+                number: refusal.number(),
+                counts: ZEROS,
+                variables: 0,
+            },
+        }
+    }
+}
+
+// What a writer answers in C: the count of bytes written.
+#[repr(C)]
+#[derive(Clone, Copy)]
+pub struct WriteAnswer {
+    pub number: u32,
+    pub bytes: usize,
+}
+
+impl From<Result<usize, Refusal>> for WriteAnswer {
+    ghost from_gives = { λ r a. (a.number ≡ answered r) × (a.bytes ≡ answer_or 0 r) };
+
+    fn from(answer: Result<usize, Refusal>) -> WriteAnswer {
+        match answer {
+            Ok(bytes) => WriteAnswer { number: 0, bytes },
+            Err(refusal) => WriteAnswer {
+                number: refusal.number(),
+                bytes: 0,
+            },
+        }
+    }
+}
 
 #[unsafe(no_mangle)]
 pub extern "C" fn chudravik_read(text: &[u8], table: &mut [u16]) -> ReadAnswer
     ensures { Reading text.now table.old result.number result.counts table.new }
 {
-    reader::read(text, table)
+    ReadAnswer::from(reader::read(text, table))
 }
 
 #[unsafe(no_mangle)]
@@ -40,28 +123,28 @@ pub extern "C" fn chudravik_read_any(
 ) -> ReadAnyAnswer
     ensures { ReadingAny text.now table.old renumbered.old result.number result.counts result.variables table.new renumbered.new }
 {
-    anyorder::read_any(text, table, renumbered)
+    ReadAnyAnswer::from(anyorder::read_any(text, table, renumbered))
 }
 
 #[unsafe(no_mangle)]
 pub extern "C" fn chudravik_read_binary(bytes: &[u8], table: &mut [u16]) -> ReadAnswer
     ensures { BinaryReading bytes.now table.old result.number result.counts table.new }
 {
-    binary_reader::read_binary(bytes, table)
+    ReadAnswer::from(binary_reader::read_binary(bytes, table))
 }
 
 #[unsafe(no_mangle)]
 pub extern "C" fn chudravik_read_beginners(text: &[u8], table: &mut [u16]) -> ReadAnswer
     ensures { ReadingBeginners text.now table.old result.number result.counts table.new × AlsoRead text.now table.old result.number result.counts table.new }
 {
-    beginner_board::read_beginners(text, table)
+    ReadAnswer::from(beginner_board::read_beginners(text, table))
 }
 
 #[unsafe(no_mangle)]
 pub extern "C" fn chudravik_write(counts: Counts, table: &[u16], text: &mut [u8]) -> WriteAnswer
     ensures { Writing counts table.now text.old result.number result.bytes text.new }
 {
-    writer::write(counts, table, text)
+    WriteAnswer::from(writer::write(counts, table, text))
 }
 
 #[unsafe(no_mangle)]
@@ -72,7 +155,7 @@ pub extern "C" fn chudravik_write_binary(
 ) -> WriteAnswer
     ensures { BinaryWriting counts table.now bytes.old result.number result.bytes bytes.new }
 {
-    binary_writer::write_binary(counts, table, bytes)
+    WriteAnswer::from(binary_writer::write_binary(counts, table, bytes))
 }
 
 #[unsafe(no_mangle)]
@@ -86,7 +169,7 @@ pub extern "C" fn chudravik_tick(
 ) -> u32
     ensures { Ticked (record { counts = counts; table = table.now; state = state.now; switches = switches.now; next = next.old; lamps = lamps.old }) result next.new lamps.new }
 {
-    tick::tick(counts, table, state, switches, next, lamps)
+    circuit::number(tick::tick(counts, table, state, switches, next, lamps))
 }
 
 #[unsafe(no_mangle)]
@@ -98,7 +181,7 @@ pub extern "C" fn chudravik_chain(
 ) -> ChainAnswer
     ensures { Chained (record { counts = counts; table = table.now; w = w; cubes = cubes.old }) result cubes.new × Closing (record { counts = counts; table = table.now; w = w; cubes = cubes.old }) result × Singles (record { counts = counts; table = table.now; w = w; cubes = cubes.old }) result cubes.new }
 {
-    chained::chain(counts, table, w, cubes)
+    ChainAnswer::from(chained::chain(counts, table, w, cubes))
 }
 
 #[unsafe(no_mangle)]
@@ -109,7 +192,8 @@ pub extern "C" fn chudravik_chain_beginners(
 ) -> ChainAnswer
     ensures { ChainedBeginners (record { counts = counts; table = table.now; cubes = cubes.old }) result cubes.new × AlwaysCloses (record { counts = counts; table = table.now; cubes = cubes.old }) result cubes.new }
 {
-    beginner_board::chain_beginners(counts, table, cubes)
+    let chain = beginner_board::chain_beginners(counts, table, cubes);
+    ChainAnswer::from(chain.map_err(ChainRefusal::Refused))
 }
 
 #[unsafe(no_mangle)]
@@ -124,7 +208,7 @@ pub extern "C" fn chudravik_judge(
 ) -> JudgeAnswer
     ensures { Judged (record { counts = counts; table = table.now; cubes = cubes.now; n = n; j = j; verdict = verdict.old; settled = settled.old }) result verdict.new settled.new × Promises (record { counts = counts; table = table.now; cubes = cubes.now; n = n; j = j; verdict = verdict.old; settled = settled.old }) verdict.new settled.new result }
 {
-    judged::judge(counts, table, cubes, n, j, verdict, settled)
+    JudgeAnswer::from(judged::judge(counts, table, cubes, n, j, verdict, settled))
 }
 
 #[unsafe(no_mangle)]
@@ -137,7 +221,7 @@ pub extern "C" fn chudravik_cover(
 ) -> CoverAnswer
     ensures { Sent (record { counts = counts; table = table.now; cubes = cubes.now; n = n; verdict = verdict.old }) result verdict.new × Keeps (record { counts = counts; table = table.now; cubes = cubes.now; n = n; verdict = verdict.old }) result verdict.new }
 {
-    sent::cover(counts, table, cubes, n, verdict)
+    CoverAnswer::from(sent::cover(counts, table, cubes, n, verdict))
 }
 
 #[unsafe(no_mangle)]
@@ -150,12 +234,12 @@ pub extern "C" fn chudravik_why(
 ) -> u32
     ensures { Explained (record { counts = counts; table = table.now; state = state.now; lamp = lamp; why = why.old }) result why.new × Suffices (record { counts = counts; table = table.now; state = state.now; lamp = lamp; why = why.old }) result why.new }
 {
-    why::why(counts, table, state, lamp, why)
+    circuit::number(why::why(counts, table, state, lamp, why))
 }
 
 #[unsafe(no_mangle)]
 pub extern "C" fn chudravik_merge(fields: usize, a: &[u8], b: &[u8], merged: &mut [u8]) -> u32
     ensures { Merging (record { fields = fields; a = a.now; b = b.now; merged = merged.old }) result merged.new × Narrowest (record { fields = fields; a = a.now; b = b.now; merged = merged.old }) result merged.new }
 {
-    merging::merge(fields, a, b, merged)
+    circuit::number(merging::merge(fields, a, b, merged))
 }

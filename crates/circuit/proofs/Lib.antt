@@ -7,3 +7,4 @@ pub mod Narrow
 pub mod Beyond
 pub mod Fixed
 pub mod LiteralValue
+pub mod Answering

@@ -2,3 +2,4 @@ pub mod Circuit
 pub mod Refusal
 pub mod Table
 pub mod RulesInCode
+pub mod Answer

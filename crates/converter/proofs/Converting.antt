@@ -31,13 +31,18 @@ module _ (binary table : List ℕ) (room : most_words ≤ length table) {number 
   pub convert_read : number ≡ 0 → Read (read_binary binary) counts table'
   convert_read z = roomy_accepted (read_binary binary) (binary_numbered binary) (binary_kept binary) table room reading z
 
+pub never_refused : {buffer : List ℕ} {counts : Counts} {table : List ℕ} {number bytes : ℕ} {buffer' : List ℕ} (binary : List ℕ) → Read (read_binary binary) counts table → 60000 ≤ length buffer
+    → Writing counts table buffer number bytes buffer' → number ≡ 0
+never_refused {buffer} {counts} {table} binary read room w =
+    let legal = accepted_table read in
+    w.answers ∙ sym (write_fits counts table (write_text counts table) buffer legal (omega (arith, text_within counts table legal, room)))
+
 pub converted_written : {binary buffer : List ℕ} {counts : Counts} {table : List ℕ} {number bytes : ℕ} {buffer' : List ℕ} → Read (read_binary binary) counts table → 60000 ≤ length buffer
     → Writing counts table buffer number bytes buffer' → Converted binary buffer bytes buffer'
 unfolding converted left_by over
 converted_written {binary} {buffer} {counts} {table} read room w =
-    let legal = accepted_table read in
-    let short = text_within counts table legal in
-    let z = w.answers ∙ sym (write_fits counts table (write_text counts table) buffer legal (omega (arith, short, room))) in
+    let short = text_within counts table (accepted_table read) in
+    let z = never_refused binary read room w in
     let same : write_text counts table ≡ converted binary = rw (converted, read.is, read.counts_are) (carries_written read.carries) in
     let returns : _ ≡ length (write_text counts table) = rw z at w.returns in
     let fills : _ ≡ over (write_text counts table) buffer = rw z at w.fills in

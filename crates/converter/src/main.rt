@@ -4,7 +4,7 @@
 ghost use Rattle.converter.specs.Converter.{Converted};
 
 use reader::MOST_TEXT;
-use reporting::{DECIDING_BYTES, TABLE_WORDS};
+use reporting::{DECIDING_BYTES, TABLE_WORDS, complain};
 use std::io::{Stderr, Stdout};
 
 // The text of what was read, or the refusal, at the front of the buffer; how many bytes it has. Nothing is relied on: any bytes may be
@@ -13,17 +13,10 @@ fn convert(binary: &[u8], out: &mut [u8; MOST_TEXT]) -> usize
     ensures { Converted binary.now out.old result out.new }
 {
     let mut table = [0u16; TABLE_WORDS];
-    let read = binary_reader::read_binary(binary, &mut table);
-    if read.number != 0 {
-        return reporting::put_refusal(out, read.number);
+    match binary_reader::read_binary(binary, &mut table) {
+        Ok(counts) => writer::write(counts, &table, out).unwrap(),
+        Err(refusal) => reporting::put_refusal(out, refusal.number()),
     }
-    let counts = read.counts;
-    let written = writer::write(counts, &table, out);
-    written.bytes
-}
-
-fn complain(errors: Stderr, why: &[u8]) {
-    let _ = errors.write_all(why);
 }
 
 // The text for these bytes, on standard output.
@@ -40,15 +33,13 @@ fn main(rt: HostRuntime) {
     let input = rt.stdin();
     let errors = rt.stderr();
     let mut binary = [0u8; DECIDING_BYTES];
-    let taken = reporting::take_text(input, &mut binary);
-    if taken.failed {
+    let Ok(bytes) = reporting::take_text(input, &mut binary) else {
         complain(
             errors,
             b"converter: standard input was not read to its end\n",
         );
         return;
-    }
-    let bytes = taken.bytes;
+    };
     print_converted(rt.stdout(), errors, &binary[..bytes]);
     if bytes == DECIDING_BYTES {
         reporting::skip_rest(input);

@@ -12,3 +12,4 @@ pub mod BufferInCode
 pub mod GivenInCode
 pub mod Examples
 pub mod Ended
+pub mod Answers

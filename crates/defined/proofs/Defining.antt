@@ -2,11 +2,15 @@
 use mathlib.Core.Path.{◌≡◌, sym, ap, ap₂, ◌∙◌}
 use mathlib.Core.Bool.{Bool, true, false, ◌&&◌}
 use mathlib.Core.List.{List}
-use Prim.Native.Nat.{ℕ, ◌+◌, ◌*◌}
+use Prim.Native.Nat.{ℕ, ◌+◌, ◌*◌, ◌<◌}
 use native.Mathlib.Omega.{arith}
-use lib.ListN.{get_or}
+use lib.ListN.{length, get_or}
+use native.Mathlib.Nat.{zero-add}
+use Rattle.std.specs.Bool.{MatchBool}
+use Rattle.std.specs.List.{range_with_len, AllWithin, HoldsAt}
+use Rattle.std.proofs.lemmas.List.FromFn.{length-range_with_len, get_or-range_with_len}
 use Rattle.three.specs.Lists.{every}
-use Rattle.three.proofs.Lists.{every_ext}
+use Rattle.three.proofs.Lists.{every_ext, every_all, every_fails}
 use Rattle.circuit.specs.Table.{literals_at, gates_at, literals}
 use Rattle.circuit.specs.declared.Counts.{Counts}
 use Rattle.pass.specs.ValuesInCode.{Readable}
@@ -28,6 +32,17 @@ module _ (c : Counts) (words : List ℕ) (s : Spoken c words) where
 
   pub right_readable : Readable words (gates_at c + 1) 2 c.gates
   right_readable = record { long = λ i h. omega (arith, s.long); small = λ i h. s.literals (gates_at c + 1 + 2 * i) (omega arith) }
+
+-- ---- whether all of a range hold, from what a search of it found
+
+pub all_of_range : (n : ℕ) (p : ℕ → Bool) (r : Bool)
+    → MatchBool r (AllWithin (λ i. p i ≡ true) (range_with_len 0 n) 0 (length (range_with_len 0 n))) ((k : ℕ) × (k < length (range_with_len 0 n)) × HoldsAt (λ i. p i ≡ false) (range_with_len 0 n) k)
+    → r ≡ every n p
+all_of_range n p true h =
+    sym (every_all n p (λ i l. sym (ap p (get_or-range_with_len 0 n i 0 l ∙ zero-add i)) ∙ h i 0 (omega arith) (omega (arith, length-range_with_len 0 n))))
+all_of_range n p false (k, l, h) =
+    let within : k < n = omega (arith, length-range_with_len 0 n) in
+    sym (every_fails n p k within (sym (ap p (get_or-range_with_len 0 n k 0 within ∙ zero-add k)) ∙ h 0))
 
 -- ---- 21 is the four of them
 

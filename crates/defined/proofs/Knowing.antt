@@ -1,14 +1,14 @@
 -- Laws of the entries when all lines are entered: which literals are defined, and which gate an operand is. Assumes nothing.
 use mathlib.Core.Path.{◌≡◌, refl, sym, ap, ◌∙◌}
-use mathlib.Core.Bool.{true, false}
-use mathlib.Core.List.{List}
+use mathlib.Core.Bool.{true, false, not}
+use mathlib.Core.List.{List, ◌++◌}
 use Prim.Native.Nat.{ℕ, zero, suc, ◌+◌, ◌*◌, ◌-◌, ◌/◌, ◌<◌, ◌≤◌}
 use native.Mathlib.Nat.{not-suc-le-zero}
 use native.Mathlib.Omega.{arith}
 use native.Mathlib.Decide.{dec_lt}
-use borrow.Author.Tests.{eqb-true, eq-eqb, ne_eqb, lt-ltb, ltb-true}
+use borrow.Author.Tests.{eqb-true, eqb-false, eq-eqb, ne_eqb, lt-ltb, ltb-true}
 use lib.Dec.{ltb, eqb}
-use lib.ListN.{length, get_or, set}
+use lib.ListN.{length, get_or, set, get_or-append}
 use lib.Seq.{get_or-set_same, get_or-set_other}
 use Rattle.three.specs.Lists.{first}
 use Rattle.three.proofs.First.{first_finds, first_holds}
@@ -89,22 +89,21 @@ module _ (d : Drawing) (places : List ℕ) (e : Entered d (lines d) places) wher
       go zero z = omega arith
       go (suc j) z = (e.some v j z).0
 
-  -- ---- as the code reads them: w is x, wide
+  -- ---- as the code answers them
 
-  pub known_constant : (x w : ℕ) → w ≡ x → w / 2 ≡ 0 → true ≡ defined d x
-  known_constant x w is z = constant_defined x (ap (λ (n : ℕ). n / 2) (sym is) ∙ z)
+  pub known_constant : (x : ℕ) → x / 2 ≡ 0 → eqb (x / 2) 0 ≡ defined d x
+  known_constant x z = eq-eqb (x / 2) 0 z ∙ constant_defined x z
 
-  pub known_none : (x w : ℕ) → w ≡ x → (w / 2 ≡ 0 → ⊥) → get_or places (w / 2) 0 ≡ 0 → false ≡ defined d x
-  known_none x w is n z = rw (← is) (entry_undefined w n z)
+  pub known_entry : (x : ℕ) → (x / 2 ≡ 0 → ⊥) → not (eqb (get_or places (x / 2) 0) 0) ≡ defined d x
+  known_entry x n = by_test (eqb (get_or places (x / 2) 0) 0)
+      (λ t. ap not t ∙ entry_undefined x n (eqb-true (get_or places (x / 2) 0) 0 t))
+      (λ t. ap not t ∙ entry_defined x n (eqb-false (get_or places (x / 2) 0) 0 t))
 
-  pub known_some : (x w : ℕ) → w ≡ x → (w / 2 ≡ 0 → ⊥) → (get_or places (w / 2) 0 ≡ 0 → ⊥) → true ≡ defined d x
-  known_some x w is n z = rw (← is) (entry_defined w n z)
+  pub source_leaf : (x n : ℕ) → leaves d ≡ n → get_or places (x / 2) 0 ≤ n → (source_of 0 ≡ source d (x / 2)) × (0 ≤ d.counts.gates)
+  source_leaf x n few h = (entry_leaf (x / 2) (omega (arith, few, h)), omega arith)
 
-  pub source_leaf : (x w n : ℕ) → leaves d ≡ n → w ≡ x → get_or places (w / 2) 0 ≤ n → (source_of 0 ≡ source d (x / 2)) × (0 ≤ d.counts.gates)
-  source_leaf x w n few is h = (rw (← is) (entry_leaf (w / 2) (omega (arith, few, h))), omega arith)
-
-  pub source_some : (x w n : ℕ) → leaves d ≡ n → w ≡ x → n < get_or places (w / 2) 0 → (source_of (get_or places (w / 2) 0 - n) ≡ source d (x / 2)) × (get_or places (w / 2) 0 - n ≤ d.counts.gates)
-  source_some x w n few is h = rw (← is, ← few) (entry_gate (w / 2) (omega (arith, few, h)), omega (arith, entry_small (w / 2), few))
+  pub source_some : (x n : ℕ) → leaves d ≡ n → n < get_or places (x / 2) 0 → (source_of (get_or places (x / 2) 0 - n) ≡ source d (x / 2)) × (get_or places (x / 2) 0 - n ≤ d.counts.gates)
+  source_some x n few h = rw (← few) (entry_gate (x / 2) (omega (arith, few, h)), omega (arith, entry_small (x / 2), few))
 
 -- ---- the loop over the operands
 
@@ -129,5 +128,8 @@ sourced_next d words at i out r s room is = record { same = λ k h. same_next k 
     small_next k (yes l) h = omega (arith, before k l, s.small k l)
     small_next k (no l) h = let e : k ≡ i = omega arith in omega (arith, here k e, is.1)
 
-pub sourced_last : (d : Drawing) (words : List ℕ) (at count i : ℕ) (out : List ℕ) → Sourced d words at i out → count ≤ i → Sourced d words at count out
-sourced_last d words at count i out s h = record { same = λ k l. s.same k (omega arith); small = λ k l. s.small k (omega arith) }
+pub sourced_last : (d : Drawing) (words : List ℕ) (at count i : ℕ) (out behind : List ℕ) → Sourced d words at i out → count ≤ i → count ≤ length out → Sourced d words at count (out ++ behind)
+sourced_last d words at count i out behind s h long = record {
+  same = λ k l. rw (get_or-append out behind 0 k (omega arith)) (s.same k (omega arith));
+  small = λ k l. rw (get_or-append out behind 0 k (omega arith)) (s.small k (omega arith));
+}

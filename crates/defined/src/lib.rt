@@ -2,6 +2,7 @@
 #![tactic(auto)]
 
 ghost use Rattle.std.specs.Prelude.{◌≡◌, List, [], ℕ, ◌+◌, ◌*◌, ◌/◌, ◌<◌, ◌≤◌, length, get_or};
+ghost use Rattle.circuit.specs.Answer.{answered};
 ghost use Rattle.circuit.specs.Table.{variables};
 ghost use Rattle.three.specs.Lists.{every};
 ghost use Rattle.pass.specs.ValuesInCode.{Readable};
@@ -9,21 +10,15 @@ ghost use Rattle.drawn.specs.Drawing.{Drawing, leaves as leaves_of, lines, defin
 ghost use Rattle.order.specs.Walk.{source_of};
 ghost use Rattle.defined.specs.Places.{held, Entered, Distinct, Entering, Sourced, SomeEntered, Spoken, Judged, DrawingJudged};
 
-use circuit::Counts;
-
-// An own literal as it stands in the text, of up to five digits.
-pub fn own_literal(x: u32) -> usize
-    ensures { result ≡ x }
-{
-    x as usize
-}
+use circuit::{Counts, Refusal};
+use order::Gates;
 
 // 20 for a line: "a variable defined twice or an own literal odd, below 2 or above 2M + 1"
 fn enter_line(counts: Counts, most: usize, owns: &[u32], k: usize, places: &mut [u16; 4096]) -> bool
     requires { (variables counts ≤ length owns.now) × (variables counts ≤ 4095) × (most ≤ 4095) × (k < variables counts) × Entered (held most counts owns.now []) k places.old }
     ensures { Entering (held most counts owns.now []) k result places.new }
 {
-    let x = own_literal(owns[k]);
+    let x = owns[k] as usize;
     if x % 2 != 0 {
         return false;
     }
@@ -60,14 +55,8 @@ fn known(places: &[u16; 4096], x: u16) -> bool
     requires { x < 8192 }
     ensures { (d : Drawing) → Entered d (lines d) places.now → result ≡ defined d x }
 {
-    let v = order::wide(x) / 2;
-    if v == 0 {
-        return true;
-    }
-    if places[v] == 0 {
-        return false;
-    }
-    true
+    let v = (x / 2) as usize;
+    v == 0 || places[v] != 0
 }
 
 // 21 for `count` literals, one every `step` words from word `at` on.
@@ -75,12 +64,7 @@ fn all_known(words: &[u16], at: usize, step: usize, count: usize, places: &[u16;
     requires { Readable words.now at step count }
     ensures { (d : Drawing) → Entered d (lines d) places.now → result ≡ every count (λ i. defined d (get_or words.now (at + step * i) 0)) }
 {
-    for i in 0..count {
-        if !known(places, words[at + step * i]) {
-            return false;
-        }
-    }
-    true
+    (0..count).all(|i| known(places, words[at + step * i]))
 }
 
 // 21 for all literals: next literals, those of one-literal lines, and both operands of each gate.
@@ -88,13 +72,11 @@ pub fn all_defined(counts: Counts, words: &[u16], places: &[u16; 4096]) -> bool
     requires { Spoken counts words.now }
     ensures { (most : ℕ) (owns : List ℕ) → Entered (held most counts owns words.now) (variables counts) places.now → result ≡ all_defined (held most counts owns words.now) }
 {
-    let literals = circuit::literals(counts);
-    let literals_at = circuit::literals_at(counts);
-    let gates_at = circuit::gates_at(counts);
+    let gates_at = counts.gates_at();
     if !all_known(words, 0, 2, counts.latches, places) {
         return false;
     }
-    if !all_known(words, literals_at, 1, literals, places) {
+    if !all_known(words, counts.literals_at(), 1, counts.literals(), places) {
         return false;
     }
     if !all_known(words, gates_at, 2, counts.gates, places) {
@@ -108,7 +90,7 @@ fn source_at(places: &[u16; 4096], leaves: u16, x: u16) -> u16
     requires { x < 8192 }
     ensures { (d : Drawing) → leaves_of d ≡ leaves → Entered d (lines d) places.now → (source_of result ≡ source d (x / 2)) × (result ≤ d.counts.gates) }
 {
-    let p = places[order::wide(x) / 2];
+    let p = places[(x / 2) as usize];
     if p <= leaves {
         return 0;
     }
@@ -127,8 +109,8 @@ pub fn find_sources(
     requires { Readable words.now at 2 count × (count ≤ 4095) × (length out.old ≡ 4096) }
     ensures { (length out.new ≡ 4096) × ((d : Drawing) → leaves_of d ≡ leaves → Entered d (lines d) places.now → Sourced d words.now at count out.new) }
 {
-    for i in 0..count {
-        out[i] = source_at(places, leaves, words[at + 2 * i]);
+    for (i, source) in out[..count].iter_mut().enumerate() {
+        *source = source_at(places, leaves, words[at + 2 * i]);
     }
 }
 
@@ -142,40 +124,52 @@ pub fn order_drawing(
     requires { Spoken counts words.now × SomeEntered counts words.now places.now × (length order.old ≡ 4096) }
     ensures { (most : ℕ) (owns : List ℕ) → Entered (held most counts owns words.now) (variables counts) places.now → Judged (held most counts owns words.now) result order.new }
 {
-    let gates = circuit::gates_at(counts);
+    let gates_at = counts.gates_at();
     let leaves = (counts.inputs + counts.latches) as u16;
     let mut left = [0u16; 4096];
     let mut right = [0u16; 4096];
-    find_sources(words, gates, counts.gates, places, leaves, &mut left);
-    find_sources(words, gates + 1, counts.gates, places, leaves, &mut right);
+    find_sources(words, gates_at, counts.gates, places, leaves, &mut left);
+    find_sources(
+        words,
+        gates_at + 1,
+        counts.gates,
+        places,
+        leaves,
+        &mut right,
+    );
     let mut depths = [0u16; 4096];
-    if !order::find_depths(&left, &right, counts.gates, &mut depths) {
+    let gates = Gates {
+        left: &left,
+        right: &right,
+        count: counts.gates,
+    };
+    if !order::find_depths(gates, &mut depths) {
         return false;
     }
     order::order_gates(&depths, counts.gates, order);
     true
 }
 
-// "after all lines are read come 20 .. 21 .. 22": the first that is given, 0 for none, and then the order of the gates.
+// "after all lines are read come 20 .. 21 .. 22": the first that is given, and for none the order of the gates.
 pub fn judge_drawing(
     counts: Counts,
     most: usize,
     owns: &[u32],
     words: &[u16],
     order: &mut [u16; 4096],
-) -> u32
+) -> Result<(), Refusal>
     requires { (variables counts ≤ length owns.now) × (most ≤ 4095) × Spoken counts words.now × (length order.old ≡ 4096) }
-    ensures { DrawingJudged (held most counts owns.now words.now) result order.new }
+    ensures { DrawingJudged (held most counts owns.now words.now) (answered result) order.new }
 {
     let mut places = [0u16; 4096];
     if !enter_lines(counts, most, owns, &mut places) {
-        return 20;
+        return Err(Refusal::Definition);
     }
     if !all_defined(counts, words, &places) {
-        return 21;
+        return Err(Refusal::Undefined);
     }
     if !order_drawing(counts, words, &places, order) {
-        return 22;
+        return Err(Refusal::Loop);
     }
-    0
+    Ok(())
 }

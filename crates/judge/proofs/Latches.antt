@@ -2,10 +2,9 @@
 use mathlib.Core.Path.{◌≡◌, refl, sym, ap, ap₂, ◌∙◌}
 use mathlib.Core.List.{List, ◌++◌}
 use Prim.Native.Nat.{ℕ, zero, suc, ◌+◌, ◌*◌, ◌-◌, ◌<◌, ◌≤◌}
-use native.Mathlib.Nat.{zero-add}
 use native.Mathlib.Omega.{arith}
-use lib.ListN.{length, get_or, take, drop, set, replicate, length-drop, length-replicate}
-use lib.Seq.{paste, get_or-drop}
+use lib.ListN.{length, get_or, take, drop, replicate, length-replicate}
+use lib.Seq.{get_or-drop}
 use Rattle.three.specs.Lists.{over}
 use Rattle.three.specs.Value.{unknown}
 use Rattle.three.specs.Cube.{merged}
@@ -21,14 +20,6 @@ use Rattle.judge.specs.JudgeInCode.{Settleable, fields_in, merged_fields, settle
 use Rattle.stored.proofs.Reaching.{part_tail}
 use Rattle.cubes.proofs.Merging.{Merged, merged_first, merged_next, merged_last, merge_behind}
 use Rattle.cubes.proofs.Wider.{merge_from_sized}
-use Rattle.three.proofs.Loops.{Stored, stored_next}
-
--- a cube copied
-pub copy_next : (cubes : List ℕ) (at len : ℕ) (out₀ out : List ℕ) (i : ℕ) → at + len ≤ length cubes → len ≤ length out₀ → Stored out₀ 0 (drop at cubes) len out i → i < len
-    → Stored out₀ 0 (drop at cubes) len (set out i (get_or cubes (at + i) 0)) (i + 1)
-copy_next cubes at len out₀ out i from room s h =
-    rw zero-add at
-    (stored_next out₀ 0 (drop at cubes) len (omega arith) (omega (arith, length-drop at cubes)) out i (get_or cubes (at + i) 0) 0 s h (sym (get_or-drop at cubes i 0)))
 
 module _ (latches : ℕ) (cubes : List ℕ) where
   pub fields_sized : (k : ℕ) → length (fields_in latches cubes k) ≡ suc latches
@@ -76,16 +67,20 @@ module _ (latches len n j : ℕ) (cubes : List ℕ) (s : Settleable latches len 
       → e' ≡ over (pack (merged (unpack (suc latches) e) (unpack (suc latches) (take (length cubes - k * len) (drop (k * len) cubes))))) e → Settled latches cubes j begun e' (k + 1)
   settled_next {k = k} m ee = merged_next _ _ _ _ _ m (rw part_tail (fields_at k)) ee
 
-  module _ (entry : List ℕ) (room : cube_bytes latches ≤ length entry) (small : (i : ℕ) → get_or cubes i 0 < 256) {begun : List ℕ} (copied : begun ≡ paste entry 0 (drop (j * len) cubes) len) where
+  module _ (entry : List ℕ) (room : cube_bytes latches ≤ length entry) (small : (i : ℕ) → get_or cubes i 0 < 256) {front : List ℕ} (copied : front ≡ take len (take (length cubes - j * len) (drop (j * len) cubes))) where
+    abbrev begun : List ℕ
+    begun = front ++ drop len entry
+
     latches_begun : begun ≡ over (pack (fields_in latches cubes j)) entry
     unfolding over
     latches_begun =
-        let first : take len (drop (j * len) cubes) ≡ pack (fields_in latches cubes j) =
-        ap (λ (m : ℕ). take m (drop (j * len) cubes)) s.size
+        let first : front ≡ pack (fields_in latches cubes j) =
+        rw part_tail at copied
+        ∙ ap (λ (m : ℕ). take m (drop (j * len) cubes)) s.size
         ∙ cube_repacked latches (drop (j * len) cubes) (is_record _ _ (s.cube j s.below)) (λ i. rw get_or-drop (small (j * len + i)))
         ∙ ap pack (sym (cube_fields latches (drop (j * len) cubes)) ∙ fields_at j) in
-        let rest : 0 + len ≡ length (pack (fields_in latches cubes j)) = rw (length_pack, fields_sized latches cubes j) (omega (arith, s.size, cube_bytes_lem latches)) in
-        copied ∙ ap₂ (λ (x : List ℕ) (m : ℕ). x ++ drop m entry) first rest
+        let rest : len ≡ length (pack (fields_in latches cubes j)) = rw (length_pack, fields_sized latches cubes j) (omega (arith, s.size, cube_bytes_lem latches)) in
+        ap₂ (λ (x : List ℕ) (m : ℕ). x ++ drop m entry) first rest
 
     pub settled_first : Settled latches cubes j begun begun (j + 1)
     settled_first = merged_first _ _ _ _ _ entry (rw (← cube_bytes_lem latches) room) latches_begun

@@ -2,7 +2,7 @@
 use mathlib.Core.Path.{◌≡◌, refl, sym, ap, ap₂, ◌∙◌}
 use mathlib.Core.Bool.{Bool, true, false}
 use mathlib.Core.List.{List, ◌++◌}
-use Prim.Native.Nat.{ℕ, ◌+◌, ◌<◌, ◌≤◌}
+use Prim.Native.Nat.{ℕ, ◌<◌, ◌≤◌}
 use native.Mathlib.Omega.{arith}
 use lib.ListN.{length, take, drop}
 use lib.Seq.{take_at}
@@ -79,7 +79,6 @@ module _ (g : JudgeGiven) where
               settles = written.counts ∙ ap known_fields latches_are ∙ accepted_new 0 _ _ refl;
               fills_verdict =
                   let front : take (bytes_for (verdicts g.counts)) seen' ≡ pack (verdict_fields g) = ap (take (bytes_for (verdicts g.counts))) seen_are ∙ take_at (pack (verdict_fields g)) _ _ packed in
-                  let rest : 0 + bytes_for (verdicts g.counts) ≡ length (pack (verdict_fields g)) = omega (arith, packed) in
-                  written.copies ∙ ap₂ (λ (x : List ℕ) (m : ℕ). x ++ drop m g.verdict) front rest ∙ accepted_new 0 _ _ refl;
+                  written.copies ∙ ap₂ (λ (x : List ℕ) (m : ℕ). x ++ drop m g.verdict) front (sym packed) ∙ accepted_new 0 _ _ refl;
               fills_settled = written.settles ∙ ap (λ (v : Cube). over (pack v) g.settled) latches_are ∙ accepted_new 0 _ _ refl;
             }

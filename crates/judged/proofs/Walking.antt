@@ -1,12 +1,13 @@
 -- Cube 0 against the resets, and each next state against the cube that comes after: byte by byte what the definition says. Assumes nothing.
-use mathlib.Core.Path.{◌≡◌, refl, sym, ap, ap₂, ◌∙◌}
+use mathlib.Core.Path.{◌≡◌, sym, ap, ◌∙◌}
 use mathlib.Core.Bool.{Bool, true, false, ◌||◌, false≢true}
 use mathlib.Core.List.{List}
+use Rattle.std.specs.Prelude.{Option, Some, None}
+use Rattle.std.specs.Option.{MatchOption, IfSome}
 use Prim.Native.Nat.{ℕ, ◌+◌, ◌*◌, ◌<◌, ◌≤◌}
-use native.Mathlib.Nat.{zero-add, zero-mul, mul-le-mul_right}
+use native.Mathlib.Nat.{zero-add, zero-mul}
 use native.Mathlib.Omega.{arith}
-use borrow.Author.Tests.{ltb-true}
-use lib.Dec.{ltb}
+use borrow.Author.Tests.{lt-ltb, le-ltb}
 use lib.ListN.{length, get_or, drop, replicate}
 use lib.Seq.{paste}
 use Rattle.three.specs.Lists.{over}
@@ -27,7 +28,6 @@ use Rattle.cubes.proofs.Marks.{no_mark, cube_covers}
 use Rattle.cubes.proofs.Held.{Bytes, padded_byte}
 use Rattle.cubes.proofs.Storing.{cube_place}
 use Rattle.cubes.proofs.Buffered.{next_counted}
-use Rattle.cubes.proofs.Places.{onward_within}
 use Rattle.stored.specs.CubesInCode.{start_fields, raised_bytes, covers_from, Settled}
 use Rattle.stored.proofs.Starting.{start_fields_lem, start_sized}
 use Rattle.stored.proofs.Reaching.{next_bytes}
@@ -35,7 +35,7 @@ use Rattle.stored.proofs.Inside.{bytes_at, covers_at}
 use Rattle.stored.proofs.Raising.{front_byte, length_raised, raised_bytes_lem}
 use Rattle.judge.specs.JudgeInCode.{Judgeable, Settleable}
 use Rattle.judge.proofs.Passing.{Passing, all_passed, all_judged}
-use Rattle.judged.specs.JudgedInCode.{and_then, goes_into, Walked}
+use Rattle.judged.specs.JudgedInCode.{and_then, lies_in, inside, goes_into, Walked}
 
 -- ---- the same cube
 
@@ -84,6 +84,15 @@ module _ (c : Counts) (words cubes : List ℕ) (small : (i : ℕ) → get_or cub
   next_inside legal state sized t b settled stored to cube e =
       e ∙ covers_at c.latches len size cubes small to cube b (next_cube circuit state) (next_counted c words state) (next_bytes c words legal state sized t settled b stored len)
 
+  -- the same by number, where there is one
+  pub next_lies : Legal c words → (state : Cube) → length state ≡ c.latches → (t b : List ℕ) → Settled c words state t → b ≡ over (pack (literal_values (values_of t) words 0 2 c.latches)) (replicate longest_cube 0)
+      → (after : Option ℕ) → IfSome after (λ m. (m * cube_bytes c.latches + cube_bytes c.latches ≤ length cubes) × IsCube c.latches (drop (m * cube_bytes c.latches) cubes))
+      → {r : Bool} → r ≡ lies_in len cubes b after → r ≡ inside (cube_in c.latches cubes) after (next_cube circuit state)
+  next_lies legal state sized t b settled stored None stands e = e
+  next_lies legal state sized t b settled stored (Some m) stands e =
+      next_inside legal state sized t b settled stored (m * len) (rw size stands.1) e
+      ∙ ap (λ (v : Cube). subsumes v (next_cube circuit state)) (cube_at_lem c.latches size cubes m)
+
 -- ---- inside, or a constraint is 0
 
 pub then_not : (b : Bool) {a : Bool} → a ≡ false → false ≡ and_then a b
@@ -94,17 +103,12 @@ pub then_asked : {a b r : Bool} → a ≡ true → r ≡ b → r ≡ and_then a 
 unfolding and_then
 then_asked e f = rw e f
 
-pub then_same : (a b b' : Bool) {r : Bool} → r ≡ and_then a b → (a ≡ true → b ≡ b') → r ≡ and_then a b'
-unfolding and_then
-then_same true b b' e f = e ∙ f refl
-then_same false b b' e f = e
-
-module _ (c : Circuit) (inside : Bool) (a b : Cube) {l : Bool} (lies : l ≡ and_then inside (subsumes a b)) where
-  pub goes_inside : l ≡ true → true ≡ goes_into c inside a b
+module _ (c : Circuit) (cubes : ℕ → Cube) (after : Option ℕ) (b : Cube) {l : Bool} (lies : l ≡ inside cubes after b) where
+  pub goes_inside : l ≡ true → true ≡ goes_into c cubes after b
   unfolding goes_into
   goes_inside e = ap (λ (x : Bool). x || blocked c b) (sym e ∙ lies)
 
-  pub goes_blocked : l ≡ false → {r : Bool} → r ≡ blocked c b → r ≡ goes_into c inside a b
+  pub goes_blocked : l ≡ false → {r : Bool} → r ≡ blocked c b → r ≡ goes_into c cubes after b
   unfolding goes_into
   goes_blocked e f = f ∙ ap (λ (x : Bool). x || blocked c b) (sym e ∙ lies)
 
@@ -121,6 +125,21 @@ module _ (c : Counts) (words : List ℕ) (n : ℕ) (cubes : List ℕ) where
   pub of_length : Judgeable c words (cube_bytes c.latches) n cubes → {len : ℕ} → len ≡ cube_bytes c.latches → Judgeable c words len n cubes
   of_length j e = rw e j
 
+-- what the code says of the cube that comes after cube number k
+abbrev Onward : ℕ → ℕ → ℕ → Option ℕ → Type 0
+Onward n j k after = MatchOption after (n ≤ onward n j k) (λ m. (m ≡ onward n j k) × (m < n))
+
+goes_same : (c : Circuit) (cubes : ℕ → Cube) (n j k : ℕ) (after : Option ℕ) → Onward n j k after → (b : Cube) → goes_into c cubes after b ≡ goes_to c cubes n (onward n j k) b
+unfolding goes_into goes_to
+goes_same c cubes n j k None is b = rw (le-ltb (onward n j k) n is)
+goes_same c cubes n j k (Some m) is b = rw (is.0, lt-ltb (onward n j k) n (rw is.0 at is.1))
+
+-- it stands in the buffer
+pub after_cube : (c : Counts) (words : List ℕ) (n j : ℕ) (cubes : List ℕ) → Judgeable c words (cube_bytes c.latches) n cubes → (k : ℕ) (after : Option ℕ) → Onward n j k after
+    → IfSome after (λ m. (m * cube_bytes c.latches + cube_bytes c.latches ≤ length cubes) × IsCube c.latches (drop (m * cube_bytes c.latches) cubes))
+after_cube c words n j cubes given k None is = tt
+after_cube c words n j cubes given k (Some m) is = (cube_place n (cube_bytes c.latches) m (length cubes) is.1 given.fits, given.cube m is.1)
+
 module _ (c : Counts) (words : List ℕ) (n j : ℕ) (cubes : List ℕ) where
   -- the next state of cube number k goes to the cube that comes after
   abbrev pub follows : ℕ → Bool
@@ -131,26 +150,17 @@ module _ (c : Counts) (words : List ℕ) (n j : ℕ) (cubes : List ℕ) where
 
 module _ (c : Counts) (words : List ℕ) (len n j : ℕ) (cubes : List ℕ) where
   module _ (given : Judgeable c words len n cubes) where
-    -- as the code asks it, at the bytes where the two cubes stand
-    -- b after cube number m, which is a
-    abbrev goes : ℕ → Cube → Cube → Bool
-    goes m a b = goes_into (circuit_of c words) (ltb m n) a (next_cube (circuit_of c words) b)
+    -- after cube number k, as the code asks it
+    pub asked : (k : ℕ) (after : Option ℕ) → Onward n j k after
+        → {r : Bool} → r ≡ goes_into (circuit_of c words) (cube_in c.latches cubes) after (next_cube (circuit_of c words) (cube_of c.latches (drop (k * len) cubes))) → r ≡ follows c words n j cubes k
+    unfolding goes_on
+    asked k after is e =
+        e ∙ ap (λ (v : Cube). goes_into (circuit_of c words) (cube_in c.latches cubes) after (next_cube (circuit_of c words) v)) (cube_at_lem c.latches given.size cubes k)
+        ∙ goes_same (circuit_of c words) (cube_in c.latches cubes) n j k after is (next_cube (circuit_of c words) (cube_in c.latches cubes k))
 
-    pub asked : (k : ℕ) {m : ℕ} {r : Bool} → m ≡ onward n j k → r ≡ goes m (cube_of c.latches (drop (m * len) cubes)) (cube_of c.latches (drop (k * len) cubes)) → r ≡ follows c words n j cubes k
-    unfolding goes_on goes_to goes_into and_then
-    asked k {m} is e =
-        e ∙ ap₂ (goes m) (cube_at_lem c.latches given.size cubes m) (cube_at_lem c.latches given.size cubes k)
-        ∙ ap (λ (i : ℕ). goes i (cube_in c.latches cubes i) (cube_in c.latches cubes k)) is
-
-    pub asked_first : {m : ℕ} {r : Bool} → m ≡ onward n j 0 → r ≡ goes m (cube_of c.latches (drop (m * len) cubes)) (cube_of c.latches cubes) → r ≡ follows c words n j cubes 0
-    asked_first is e = asked 0 is (rw zero-mul e)
-
-    -- the cube that comes after stands in the buffer, where there is one
-    pub after_product : (k : ℕ) → j ≤ n → {m : ℕ} → m ≡ onward n j k → m * len ≤ length cubes
-    after_product k within {m} is = omega (arith, mul-le-mul_right len (rw (← is) at (onward_within n j k within)), given.fits)
-
-    pub after_cube : (m : ℕ) → ltb m n ≡ true → (m * len + cube_bytes c.latches ≤ length cubes) × IsCube c.latches (drop (m * len) cubes)
-    after_cube m e = let h = ltb-true m n e in (omega (arith, cube_place n len m (length cubes) h given.fits, given.size), given.cube m h)
+    pub asked_first : (after : Option ℕ) → Onward n j 0 after
+        → {r : Bool} → r ≡ goes_into (circuit_of c words) (cube_in c.latches cubes) after (next_cube (circuit_of c words) (cube_of c.latches cubes)) → r ≡ follows c words n j cubes 0
+    asked_first after is e = asked 0 after is (rw zero-mul e)
 
   module _ (entry : List ℕ) (fits : bytes_for (verdicts c) ≤ length entry) (begun : List ℕ) (first : begun ≡ over (pack (watched_in (circuit_of c words) (cube_of c.latches cubes))) entry)
       {verdict values seen : List ℕ} {k : ℕ} (p : Passing c words len n cubes (follows c words n j cubes) begun verdict values seen k) where

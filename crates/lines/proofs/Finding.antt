@@ -5,17 +5,17 @@ use Prim.Native.Nat.{ℕ, zero, suc, ◌+◌, ◌-◌, ◌≤◌, ◌<◌}
 use native.Mathlib.Numerals.{add-one}
 use native.Mathlib.Omega.{arith}
 use native.Mathlib.Nat.{sub-zero, min-le_left, not-suc-le-zero}
-use borrow.Author.Tests.{ltb-true, ltb-false}
-use lib.Dec.{ltb}
 use lib.ListN.{length, get_or, set, take, length-set, length-take, get_or-eq_default}
 use lib.Seq.{take-suc-set, get_or-take, length-take-le}
 use Rattle.text.specs.Part.{Part, got, ill}
 use Rattle.text.specs.Line.{prepend, split_line}
-use Rattle.lines.specs.LinesInCode.{most_numbers, from, line_part, line_end, FoundInLine, counted, Shape, numbers_of, LineFound}
-use Rattle.lines.specs.declared.ReadLine.{ReadLine}
+use Rattle.std.specs.Prelude.{Option, Some, None}
+use Rattle.lines.specs.Shape.{most_numbers, Shape}
+use Rattle.lines.specs.LinesInCode.{from, line_part, line_end, FoundInLine, counted, numbers_of, LineFound}
+use Rattle.lines.specs.declared.Number.{Number}
+use Rattle.lines.specs.declared.read_line.ReadLine.{ReadLine}
 use Rattle.lines.specs.declared.InLine.{InLine}
-use Rattle.lines.specs.declared.InLine.TheVariants.{Last, More, NotInLine}
-use Rattle.three.proofs.Lists.{by_test}
+use Rattle.lines.specs.declared.InLine.TheVariants.{Last, More}
 
 -- ---- a line: k numbers are read, and the next one stands at `next`
 
@@ -51,42 +51,42 @@ module _ (ending text : List ℕ) (at most : ℕ) where
     unfolding split_line prepend_all
     pieces_end e = s.same ∙ let z : most - k ≡ 0 = omega arith in rw z
 
-    module _ (h : k < most) {n : InLine} (found : FoundInLine ending text (from text next) n) where
+    module _ (h : k < most) {n : Option InLine} (found : FoundInLine ending text (from text next) n) where
       here : split_line ending (most - k) (from text next) ≡ line_part ending text (most - (k + 1)) n
       here = let z : most - k ≡ suc (most - (k + 1)) = omega arith in rw z (found.reads _)
 
-      pub pieces_ill : n ≡ NotInLine → split_line ending most (from text at) ≡ ill
+      pub pieces_ill : n ≡ None → split_line ending most (from text at) ≡ ill
       unfolding line_part prepend_all
       pieces_ill e = s.same ∙ rw (here, e)
 
-      pub pieces_last : {v end : ℕ} → n ≡ Last v end → LineFound text (split_line ending most (from text at)) (record { count = k + 1; numbers = set numbers k v; next = end })
+      pub pieces_last : {v : Number} → n ≡ Some (Last v) → {shape : Shape (k + 1) (set numbers k v.value)}
+          → LineFound text (split_line ending most (from text at)) (record { count = k + 1; numbers = set numbers k v.value; next = v.next; shape = shape })
       unfolding line_part line_end prepend_all counted
-      pieces_last {v} {end} e = record {
-        reads = s.same ∙ rw (here, e, add-one, take-suc-set numbers k v (omega (arith, s.long, s.most_fits)));
-        shape = record { few = omega (arith, s.most_fits); long = length-set numbers k v ∙ s.long };
+      pieces_last {v} e = record {
+        reads = s.same ∙ rw (here, e, add-one, take-suc-set numbers k v.value (omega (arith, s.long, s.most_fits)));
         within = rw e at found.within;
       }
 
-      pub pieces_more : {v end : ℕ} → n ≡ More v end → Pieces (set numbers k v) end (k + 1)
+      pub pieces_more : {v : Number} → n ≡ Some (More v) → Pieces (set numbers k v.value) v.next (k + 1)
       unfolding line_part line_end
-      pieces_more {v} {end} e = record {
+      pieces_more {v} e = record {
         few = omega arith;
         most_fits = s.most_fits;
-        long = length-set numbers k v ∙ s.long;
+        long = length-set numbers k v.value ∙ s.long;
         within = rw e at found.within;
-        same = s.same ∙ rw (here, e, add-one, take-suc-set numbers k v (omega (arith, s.long, s.most_fits))) (prepend_all_prepend _ _ _);
+        same = s.same ∙ rw (here, e, add-one, take-suc-set numbers k v.value (omega (arith, s.long, s.most_fits))) (prepend_all_prepend _ _ _);
       }
 
 -- no line
-pub found_none : (text numbers : List ℕ) (at : ℕ) → length numbers ≡ most_numbers → at ≤ length text → LineFound text ill (record { count = 0; numbers = numbers; next = at })
+pub found_none : (text numbers : List ℕ) (at : ℕ) (shape : Shape 0 numbers) → at ≤ length text → LineFound text ill (record { count = 0; numbers = numbers; next = at; shape = shape })
 unfolding counted
-found_none text numbers at l h = record { reads = refl; shape = record { few = omega arith; long = l }; within = h }
+found_none text numbers at shape h = record { reads = refl; within = h }
 
 -- ---- a line's numbers
 
-pub line_length : (l : ReadLine) → Shape l → length (numbers_of l) ≡ l.count
+pub line_length : (l : ReadLine) → length (numbers_of l) ≡ l.count
 unfolding numbers_of
-line_length l s = length-take-le l.count l.numbers (omega arith)
+line_length l = length-take-le l.count l.numbers (omega (arith, l.shape.few, l.shape.long))
 
 pub entry_absent : (l : ReadLine) (i : ℕ) → l.count ≤ i → 0 ≡ get_or (numbers_of l) i 0
 unfolding numbers_of
@@ -109,9 +109,3 @@ line_got {text} l f h = f.reads ∙ go l.count h
 pub line_ill_formed : {text : List ℕ} {p : Part (List ℕ)} (l : ReadLine) → LineFound text p l → l.count ≡ 0 → p ≡ ill
 unfolding counted
 line_ill_formed l f e = f.reads ∙ rw e
-
--- the line's numbers and position, where it is read
-pub line_read : {text : List ℕ} {p : Part (List ℕ)} {ns rest : List ℕ} (l : ReadLine) → LineFound text p l → p ≡ got ns rest → (numbers_of l ≡ ns) × (from text l.next ≡ rest)
-line_read l f e = by_test (ltb 0 l.count)
-    (λ h. let g = line_got l f (ltb-true 0 l.count h) in (cc, cc))
-    (λ h. let z : l.count ≡ 0 = omega (arith, ltb-false 0 l.count h) in let g = line_ill_formed l f z in absurd (let z : ◌≡◌ {A = ℕ} 0 1 = cc in omega arith))

@@ -1,64 +1,71 @@
 // Numbers and lines of a text (specification, 4.1 and 4.2).
 #![tactic(auto)]
 
-ghost use Rattle.std.specs.Prelude.{◌≡◌, List, ℕ, ◌≤◌, ◌<◌, length, get_or};
+ghost use Rattle.std.specs.Prelude.{◌≡◌, List, ℕ, ◌≤◌, length};
 ghost use Rattle.text.specs.Decimal.{may_grow, read_number};
-ghost use Rattle.text.specs.Text.{reset_word};
 ghost use Rattle.text.specs.Line.{split_line};
-ghost use Rattle.lines.specs.LinesInCode.{most_numbers, from, leading, NumberFound, ending_bytes, first_byte, lead_bytes, EndingAt, FoundInLine, numbers_of, LineFound};
 ghost use Rattle.text.specs.Part.{ill};
+ghost use Rattle.lines.specs.Shape.{most_numbers};
+ghost use Rattle.lines.specs.LinesInCode.{from, leading, NumberFound, ending_bytes, first_byte, lead_bytes, EndingAt, FoundInLine, LineFound};
 
-// A number at a position, and the position behind it.
+mod read_line;
+
+pub use read_line::{MOST_NUMBERS, ReadLine};
+
+// A line of the body has at most three numbers.
+pub const BODY_NUMBERS: usize = 3;
+
+// A number, and the position behind it.
 #[derive(Clone, Copy)]
-pub enum ReadNumber {
-    Value(usize, usize),
-    NoNumber,
+pub struct Number {
+    pub value: usize,
+    pub next: usize,
 }
 
 // What ends the lines of a text.
-#[derive(Clone, Copy)]
+#[derive(Clone, Copy, Debug, PartialEq, Eq)]
 pub enum Ending {
     Newline,
     OfficeNewline,
 }
 
-// A number with what stands behind it, the line's ending or a space.
+// A number with what stands behind it, the line's ending or a space, and the position behind that.
 #[derive(Clone, Copy)]
 pub enum InLine {
-    Last(usize, usize),
-    More(usize, usize),
-    NotInLine,
+    Last(Number),
+    More(Number),
 }
 
-// No line has more numbers than the first: M I L O A B C J F.
-pub const MOST_NUMBERS: usize = 9;
+impl Ending {
+    fn first_byte(self) -> u8
+        ensures { result ≡ first_byte self }
+    {
+        match self {
+            Ending::Newline => b'\n',
+            Ending::OfficeNewline => b'\r',
+        }
+    }
 
-// A line of the body has at most three.
-pub const BODY_NUMBERS: usize = 3;
-
-// The numbers of a line, none where it is ill-formed, and the position behind it.
-#[derive(Clone, Copy)]
-pub struct ReadLine {
-    pub count: usize,
-    pub numbers: [usize; MOST_NUMBERS],
-    pub next: usize,
+    // How many bytes stand in front of its byte 10.
+    fn lead(self) -> usize
+        ensures { result ≡ lead_bytes self }
+    {
+        match self {
+            Ending::Newline => 0,
+            Ending::OfficeNewline => 1,
+        }
+    }
 }
 
-// The digit at a position, and 10 where there is none.
-fn digit_at(text: &[u8], at: usize) -> usize
+// The digit at a position.
+fn digit_at(text: &[u8], at: usize) -> Option<usize>
     ensures { result ≡ leading (from text.now at) }
 {
-    if at >= text.len() {
-        return 10;
+    let byte = *text.get(at)?;
+    if !byte.is_ascii_digit() {
+        return None;
     }
-    let b = text[at];
-    if b < b'0' {
-        return 10;
-    }
-    if b > b'9' {
-        return 10;
-    }
-    (b - b'0') as usize
+    Some(usize::from(byte - b'0'))
 }
 
 // One to five digits and no leading zero except `0` itself: another digit may follow.
@@ -71,93 +78,61 @@ fn may_grow(value: usize) -> bool
     value < 10000
 }
 
-fn number(text: &[u8], at: usize) -> ReadNumber
+fn read_number(text: &[u8], at: usize) -> Option<Number>
     ensures { NumberFound text.now (read_number (from text.now at)) result }
 {
-    let mut value = digit_at(text, at);
-    if value > 9 {
-        return ReadNumber::NoNumber;
-    }
+    let mut value = digit_at(text, at)?;
     let mut next = at + 1;
-    loop {
-        let d = digit_at(text, next);
-        if d > 9 {
-            return ReadNumber::Value(value, next);
-        }
+    while let Some(digit) = digit_at(text, next) {
         if !may_grow(value) {
-            return ReadNumber::NoNumber;
+            return None;
         }
-        value = value * 10 + d;
+        value = value * 10 + digit;
         next += 1;
     }
+    Some(Number { value, next })
 }
 
-// The first byte of an ending.
-fn first_byte(ending: Ending) -> u8
-    ensures { result ≡ first_byte ending }
-{
-    match ending {
-        Ending::Newline => {
-            return 10;
-        }
-        Ending::OfficeNewline => {
-            return 13;
-        }
-    }
-}
-
-// How many bytes stand in front of its byte 10.
-fn lead(ending: Ending) -> usize
-    ensures { result ≡ lead_bytes ending }
-{
-    match ending {
-        Ending::Newline => {
-            return 0;
-        }
-        Ending::OfficeNewline => {
-            return 1;
-        }
-    }
-}
-
-// The length of a line's ending at a position, and 0 where there is none. Both endings take the same way, so that a line
-// of either is read by one loop.
-pub fn ending_at(text: &[u8], at: usize, ending: Ending) -> usize
+// The position behind the ending of a line, where there is one at a position. Both endings take the same way, so that a line
+// of either is read by one loop; byte by byte, since a comparison of slices takes a fifth to a half more of a whole reader's time.
+pub fn ending_at(text: &[u8], at: usize, ending: Ending) -> Option<usize>
     requires { at ≤ length text.now }
     ensures { EndingAt (ending_bytes ending) text.now at result }
 {
-    let before = lead(ending);
+    let before = ending.lead();
     if text.len() - at <= before {
-        return 0;
+        return None;
     }
-    if text[at] != first_byte(ending) {
-        return 0; // also for byte 10 alone
+    if text[at] != ending.first_byte() {
+        return None; // also for byte 10 alone
     }
-    if text[at + before] != 10 {
-        return 0; // a lone 13
+    if text[at + before] != b'\n' {
+        return None; // a lone 13
     }
-    before + 1
+    Some(at + before + 1)
 }
 
 // One space between.
-fn number_in_line(text: &[u8], at: usize, ending: Ending) -> InLine
+fn number_in_line(text: &[u8], at: usize, ending: Ending) -> Option<InLine>
     ensures { FoundInLine (ending_bytes ending) text.now (from text.now at) result }
 {
-    let found = number(text, at);
-    let ReadNumber::Value(value, end) = found else {
-        return InLine::NotInLine;
-    };
-    let length = ending_at(text, end, ending);
-    if length != 0 {
-        return InLine::Last(value, end + length);
+    let found = read_number(text, at)?;
+    if let Some(next) = ending_at(text, found.next, ending) {
+        return Some(InLine::Last(Number {
+            value: found.value,
+            next,
+        }));
     }
-    if end >= text.len() {
-        return InLine::NotInLine; // a line without its end
+    if found.next >= text.len() {
+        return None; // a line without its end
     }
-    if text[end] == b' ' {
-        return InLine::More(value, end + 1);
+    if text[found.next] == b' ' {
+        return Some(InLine::More(Number {
+            value: found.value,
+            next: found.next + 1,
+        }));
     }
-    InLine::NotInLine
+    None
 }
 
 // An ill-formed line, at a position of any text.
@@ -178,50 +153,23 @@ pub fn line(text: &[u8], at: usize, ending: Ending, most: usize) -> ReadLine
     let mut numbers = [0usize; MOST_NUMBERS];
     let mut next = at;
     for k in 0..most {
-        let found = number_in_line(text, next, ending);
-        match found {
-            InLine::Last(value, end) => {
-                numbers[k] = value;
+        match number_in_line(text, next, ending) {
+            Some(InLine::Last(number)) => {
+                numbers[k] = number.value;
                 return ReadLine {
                     count: k + 1,
-                    numbers: numbers,
-                    next: end,
+                    numbers,
+                    next: number.next,
                 };
             }
-            InLine::More(value, end) => {
-                numbers[k] = value;
-                next = end;
+            Some(InLine::More(number)) => {
+                numbers[k] = number.value;
+                next = number.next;
             }
-            InLine::NotInLine => {
+            None => {
                 return no_line(at);
             }
         }
     }
     no_line(at)
-}
-
-// Number i of a line, and 0 where it is absent.
-pub fn entry(found: ReadLine, i: usize) -> usize
-    requires { i < most_numbers }
-    ensures { result ≡ get_or (numbers_of found) i 0 }
-{
-    if i >= found.count {
-        return 0;
-    }
-    let numbers = found.numbers;
-    numbers[i]
-}
-
-// The reset word of a latch's line: 2 where it repeats the own literal, 3 where the number is no reset.
-pub fn reset_word(found: ReadLine) -> usize
-    ensures { result ≡ reset_word (get_or (numbers_of found) 0 0) (get_or (numbers_of found) 2 0) }
-{
-    let reset = entry(found, 2);
-    if reset <= 1 {
-        return reset;
-    }
-    if reset == entry(found, 0) {
-        return 2; // no start value
-    }
-    3
 }

@@ -10,6 +10,7 @@ use lib.Seq.{sets, length-sets}
 use Rattle.three.proofs.Lists.{by_test}
 use Rattle.circuit.specs.Refusal.{refusal}
 use Rattle.circuit.specs.Table.{Kind}
+use Rattle.text.specs.declared.LineKind.{LineKind}
 use Rattle.text.specs.Part.{got}
 use Rattle.text.specs.Line.{read_line}
 use Rattle.text.specs.Outcome.{Outcome, accepted, refused, onward}
@@ -18,7 +19,7 @@ use Rattle.text.specs.KindsInCode.{coded}
 use Rattle.text.proofs.Spelling.{length_words}
 use Rattle.text.proofs.Steps.{line_ill, line_stops, line_fits}
 use Rattle.text.proofs.Coding.{words_alike}
-use Rattle.lines.specs.declared.ReadLine.{ReadLine}
+use Rattle.lines.specs.declared.read_line.ReadLine.{ReadLine}
 use Rattle.lines.specs.LinesInCode.{from, numbers_of, LineFound}
 use Rattle.lines.proofs.Finding.{line_got, line_ill_formed}
 use Rattle.reader.proofs.Bodies.{after_refused}
@@ -29,7 +30,7 @@ use Rattle.listing.proofs.Needs.{take_sets, length_shown, no_numbers}
 
 -- ---- a line
 
-module _ (ending text : List ℕ) (most k own : ℕ) {a b : ℕ} {s : Stand} (room : Listable text most a b s)
+module _ (ending text : List ℕ) (most : ℕ) (k : LineKind) (own : ℕ) {a b : ℕ} {s : Stand} (room : Listable text most a b s)
     {l : ReadLine} (f : LineFound text (read_line ending (from text s.at)) l) where
   abbrev kind : Kind
   kind = coded k own
@@ -41,14 +42,14 @@ module _ (ending text : List ℕ) (most k own : ℕ) {a b : ℕ} {s : Stand} (ro
   unfolding whole onward
   whole_refused ks e = rw e
 
-  pub line_refused : {n : ℕ} → n ≡ refusal (any_tests most (coded k 0) ns) → (n ≡ 0 → ⊥) → Listed ending text most (λ ks. kind ∷ ks) a b n s s
+  pub line_refused : {n : ℕ} → n ≡ refusal (any_tests most (coded k 0) ns) → (n ≡ 0 → ⊥) → Listed ending text most (λ ks. kind ∷ ks) a b n s (stand 0 0 0 s.owns s.words)
   line_refused {n} e z = record {
     says = λ ks. by_test (ltb 0 l.count)
         (λ h. stops n e z ks (line_got l f (ltb-true 0 l.count h)) ∙ sym (after_refused n _ z))
         (λ h. let y : l.count ≡ 0 = omega (arith, ltb-false 0 l.count h) in
-        let four : n ≡ 4 = e ∙ sym (count_stops most k l f.shape refl (rw (y, no_numbers (coded k 0)))) in
+        let four : n ≡ 4 = e ∙ sym (count_stops most k l refl (rw (y, no_numbers (coded k 0)))) in
         whole_refused (kind ∷ ks) (line_ill ending (any_tests most) kind ks _ (line_ill_formed l f y)) ∙ rw (← four) (sym (after_refused n _ z)));
-    within = room.within;
+    within = omega arith;
     owns_long = refl;
     words_long = refl;
     line = λ y. absurd (z y);
@@ -75,7 +76,7 @@ module _ (ending text : List ℕ) (most k own : ℕ) {a b : ℕ} {s : Stand} (ro
     found = by_test (ltb 0 l.count)
         (λ h. line_got l f (ltb-true 0 l.count h))
         (λ h. let y : l.count ≡ 0 = omega (arith, ltb-false 0 l.count h) in
-        let four = count_stops most k l f.shape refl (rw (y, no_numbers (coded k 0))) in absurd (omega (arith, z, four)))
+        let four = count_stops most k l refl (rw (y, no_numbers (coded k 0))) in absurd (omega (arith, z, four)))
 
     owns_kept : take t.line owns' ≡ take s.line s.owns ++ shown_own kind ns
     owns_kept = rw (o, ← (length_shown (coded k 0) ns)) (take_sets s.owns s.line (shown_own (coded k 0) ns) (rw (length_shown (coded k 0) ns) owns_room) ∙ ap (λ os. take s.line s.owns ++ os) (shows_alike k own ns))

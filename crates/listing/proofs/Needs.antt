@@ -12,12 +12,14 @@ use Rattle.three.proofs.Lists.{by_test}
 use Rattle.circuit.specs.Refusal.{refusal}
 use Rattle.circuit.specs.Table.{Kind, input, latch, literal, gate}
 use Rattle.circuit.proofs.Refusals.{passes}
+use Rattle.text.specs.declared.LineKind.{LineKind}
+use Rattle.text.specs.declared.LineKind.TheVariants.{Lamp}
 use Rattle.text.specs.Line.{read_line}
 use Rattle.text.specs.Text.{fits, words, shown_own}
 use Rattle.text.specs.KindsInCode.{coded}
 use Rattle.text.proofs.Lines.{Short, split_line_lem}
 use Rattle.text.proofs.Spelling.{length_words}
-use Rattle.lines.specs.declared.ReadLine.{ReadLine}
+use Rattle.lines.specs.declared.read_line.ReadLine.{ReadLine}
 use Rattle.lines.specs.LinesInCode.{numbers_of, LineFound}
 use Rattle.lines.proofs.Finding.{line_length, line_got}
 use Rattle.reader.specs.ReaderInCode.{WordsFit}
@@ -40,11 +42,11 @@ length_shown (latch own) ns = refl
 length_shown (gate own) ns = refl
 length_shown literal ns = refl
 
-pub lamp_shown : {k : ℕ} → k ≡ 2 → shown_by (coded k 0) ≡ 0
+pub lamp_shown : {k : LineKind} → k ≡ Lamp → shown_by (coded k 0) ≡ 0
 unfolding shown_by
 lamp_shown e = ap length (lamp_shows [] e)
 
-pub other_shown : (k : ℕ) → (k ≡ 2 → ⊥) → shown_by (coded k 0) ≡ 1
+pub other_shown : (k : LineKind) → (k ≡ Lamp → ⊥) → shown_by (coded k 0) ≡ 1
 unfolding shown_by
 other_shown k f = ap length (other_shows k [] f)
 
@@ -54,7 +56,7 @@ other_shown k f = ap length (other_shows k [] f)
 pub own_small : {text : List ℕ} (ending t : List ℕ) (l : ReadLine) → LineFound text (read_line ending t) l → get_or (numbers_of l) 0 0 < 100000
 own_small ending t l f = by_test (ltb 0 l.count)
     (λ h. first (numbers_of l) (split_line_lem ending 3 (line_got l f (ltb-true 0 l.count h))).short)
-    (λ h. let z : length (numbers_of l) ≡ 0 = line_length l f.shape ∙ omega (arith, ltb-false 0 l.count h) in none (numbers_of l) z)
+    (λ h. let z : length (numbers_of l) ≡ 0 = line_length l ∙ omega (arith, ltb-false 0 l.count h) in none (numbers_of l) z)
   where
     first : (ns : List ℕ) → Short ns → get_or ns 0 0 < 100000
     first [] s = omega arith
@@ -64,7 +66,7 @@ own_small ending t l f = by_test (ltb 0 l.count)
     none [] z = omega arith
     none (n ∷ ns) z = absurd (omega arith)
 
-pub words_fit : {text : List ℕ} {most a : ℕ} (k : ℕ) (ns : List ℕ) {s : Stand} → Listable text most a (worded (coded k 0)) s → 0 ≡ refusal (any_tests most (coded k 0) ns) → WordsFit (words (coded k 0) ns) s.word s.words
+pub words_fit : {text : List ℕ} {most a : ℕ} (k : LineKind) (ns : List ℕ) {s : Stand} → Listable text most a (worded (coded k 0)) s → 0 ≡ refusal (any_tests most (coded k 0) ns) → WordsFit (words (coded k 0) ns) s.word s.words
 unfolding worded
 words_fit {most = most} k ns f z = record {
   small = λ i. let h = words_small most (coded k 0) ns f.low (passes _ (any_numbered most (coded k 0) ns) z) i in omega arith;

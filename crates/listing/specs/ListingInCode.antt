@@ -1,6 +1,8 @@
 -- What the reading of a drawing's lines answers: arrays and places in place of lists; nothing here has to be believed. Assumes nothing.
-use Rattle.std.specs.Prelude.{◌≡◌, List, [], ◌++◌, ℕ, ◌+◌, ◌≤◌, ◌<◌, length, take}
+use Rattle.std.specs.Prelude.{◌≡◌, List, [], ◌++◌, ℕ, ◌+◌, ◌≤◌, ◌<◌, length, take, Result}
 use Rattle.circuit.specs.declared.Counts.{Counts}
+use Rattle.circuit.specs.declared.Refusal.{Refusal}
+use Rattle.circuit.specs.Answer.{answered, answer_or}
 use Rattle.circuit.specs.Table.{variables, table_length, Kind, width, kinds}
 use Rattle.text.specs.Outcome.{Outcome, accepted, onward}
 use Rattle.text.specs.OutcomeInCode.{after}
@@ -26,6 +28,13 @@ pub record Stand : Type 0 where
 
 abbrev pub stand : ℕ → ℕ → ℕ → List ℕ → List ℕ → Stand
 stand at line word owns words = record { at = at; line = line; word = word; owns = owns; words = words }
+
+-- where lines are read up to, and what is listed; beside a refusal no place is said
+abbrev pub place_of : Result Progress Refusal → Progress
+place_of r = answer_or (record { at = 0; line = 0; word = 0 }) r
+
+abbrev pub reached : Result Progress Refusal → List ℕ → List ℕ → Stand
+reached r owns words = stand (place_of r).at (place_of r).line (place_of r).word owns words
 
 -- what is listed, in front of the lines that are left
 abbrev pub behind : List ℕ → List ℕ → Lines → Lines
@@ -53,10 +62,10 @@ pub record Listed (ending text : List ℕ) (most : ℕ) (lines : List Kind → L
   pub word : number ≡ 0 → t.word ≡ s.word + b
 
 -- All lines of a circuit
-pub record BodyListed (ending text : List ℕ) (at : ℕ) (c : Counts) (most : ℕ) (owns words : List ℕ) (r : Progress) (owns' words' : List ℕ) : Type 0 where
-  pub says : read_lines ending (any_tests most) (kinds c) (from text at) ≡ after r.number (accepted (record { owns = take r.line owns'; words = take r.word words'; rest = from text r.at }))
-  pub within : r.at ≤ length text
+pub record BodyListed (ending text : List ℕ) (at : ℕ) (c : Counts) (most : ℕ) (owns words : List ℕ) (r : Result Progress Refusal) (owns' words' : List ℕ) : Type 0 where
+  pub says : read_lines ending (any_tests most) (kinds c) (from text at) ≡ after (answered r) (accepted (record { owns = take (place_of r).line owns'; words = take (place_of r).word words'; rest = from text (place_of r).at }))
+  pub within : (place_of r).at ≤ length text
   pub owns_long : length owns' ≡ length owns
   pub words_long : length words' ≡ length words
-  pub line : r.number ≡ 0 → r.line ≡ variables c
-  pub word : r.number ≡ 0 → r.word ≡ table_length c
+  pub line : answered r ≡ 0 → (place_of r).line ≡ variables c
+  pub word : answered r ≡ 0 → (place_of r).word ≡ table_length c

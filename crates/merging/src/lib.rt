@@ -7,37 +7,39 @@ ghost use Rattle.three.specs.Cube.{merged as merged_cubes};
 ghost use Rattle.three.specs.Record.{bytes_for, pack, unpack};
 ghost use Rattle.three.specs.RecordInCode.{IsRecord};
 ghost use Rattle.circuit.specs.Refusal.{refusal};
+ghost use Rattle.circuit.specs.Answer.{answered};
 ghost use Rattle.merging.specs.Call.{merge_tests, Merging};
 ghost use Rattle.merging.specs.Promise.{Narrowest};
+
+use circuit::Refusal;
 
 // As many fields as a record has at most: 512 latches.
 const MOST_FIELDS: usize = 512;
 
-// The refusals of a merge, in order, for a result of this length; 0 for none.
-fn merge_refusal(fields: usize, a: &[u8], b: &[u8], merged: usize) -> u32
-    ensures { result ≡ refusal (merge_tests fields a.now b.now merged) }
+// The refusals of a merge, in order, for a result of this length.
+fn merge_refusal(fields: usize, a: &[u8], b: &[u8], merged: usize) -> Result<(), Refusal>
+    ensures { answered result ≡ refusal (merge_tests fields a.now b.now merged) }
 {
     if fields > MOST_FIELDS {
-        return 3;
+        return Err(Refusal::OverCeiling);
     }
     let len = three::record_length(fields);
     if a.len() < len {
-        return 10;
+        return Err(Refusal::TooShort);
     }
     if b.len() < len {
-        return 10;
+        return Err(Refusal::TooShort);
     }
-    let known = three::known_table();
-    if !three::sound(&known, a, fields) {
-        return 14;
+    if !three::sound(a, fields) {
+        return Err(Refusal::Unsound);
     }
-    if !three::sound(&known, b, fields) {
-        return 14;
+    if !three::sound(b, fields) {
+        return Err(Refusal::Unsound);
     }
     if merged < len {
-        return 10;
+        return Err(Refusal::TooShort);
     }
-    0
+    Ok(())
 }
 
 // What is known alike in both, into the front of `merged`: on the two bits of a field that is AND.
@@ -51,13 +53,10 @@ fn store_common(fields: usize, a: &[u8], b: &[u8], merged: &mut [u8])
 }
 
 // The public merge. Nothing is relied on: any numbers and buffers may be handed in.
-pub fn merge(fields: usize, a: &[u8], b: &[u8], merged: &mut [u8]) -> u32
-    ensures { Merging (record { fields = fields; a = a.now; b = b.now; merged = merged.old }) result merged.new × Narrowest (record { fields = fields; a = a.now; b = b.now; merged = merged.old }) result merged.new }
+pub fn merge(fields: usize, a: &[u8], b: &[u8], merged: &mut [u8]) -> Result<(), Refusal>
+    ensures { Merging (record { fields = fields; a = a.now; b = b.now; merged = merged.old }) (answered result) merged.new × Narrowest (record { fields = fields; a = a.now; b = b.now; merged = merged.old }) (answered result) merged.new }
 {
-    let number = merge_refusal(fields, a, b, merged.len());
-    if number != 0 {
-        return number;
-    }
+    merge_refusal(fields, a, b, merged.len())?;
     store_common(fields, a, b, merged);
-    number
+    Ok(())
 }

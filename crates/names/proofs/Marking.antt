@@ -33,14 +33,14 @@ line_by_small owns order leaves gates r f h = go (dec_lt r leaves)
     go (yes l) = omega (arith, line_of_leaf order leaves r l)
     go (no l) = let few = f.gates_few (r - leaves) (omega arith) in omega (arith, line_of_gate order leaves r (omega arith), few)
 
-pub gate_line_small : (owns order : List ℕ) (leaves gates r w : ℕ) → Followed owns order leaves gates → leaves ≤ r → r < leaves + gates → w ≡ get_or order (r - leaves) 0 → leaves + w < 4096
-gate_line_small owns order leaves gates r w f l h is = omega (arith, f.few, is, f.gates_few (r - leaves) (omega arith))
+pub gate_line_small : (owns order : List ℕ) (leaves gates r : ℕ) → Followed owns order leaves gates → leaves ≤ r → r < leaves + gates → leaves + get_or order (r - leaves) 0 < 4096
+gate_line_small owns order leaves gates r f l h = omega (arith, f.few, f.gates_few (r - leaves) (omega arith))
 
 -- the variable of the line is in the working table
-pub name_room : (owns order : List ℕ) (leaves gates r k x : ℕ) → Followed owns order leaves gates → r < leaves + gates → k ≡ line_by order leaves r → x ≡ get_or owns k 0 → x / 2 < 4096
-name_room owns order leaves gates r k x f h is_k is_x =
+pub name_room : (owns order : List ℕ) (leaves gates r k : ℕ) → Followed owns order leaves gates → r < leaves + gates → k ≡ line_by order leaves r → get_or owns k 0 / 2 < 4096
+name_room owns order leaves gates r k f h is_k =
     let small = f.small k (omega (arith, is_k, line_by_small owns order leaves gates r f h)) in
-    omega (arith, is_x, small)
+    omega (arith, small)
 
 line_same : (d : Drawing) (owns order : List ℕ) (n gates r : ℕ) → Of d owns order n gates → r < n + gates → line_by order n r ≡ line_at d r
 unfolding line_by line_at

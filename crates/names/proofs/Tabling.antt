@@ -1,13 +1,14 @@
 -- Laws of the table as it is filled: word by word, and that it is the drawing's table. Assumes nothing.
 use mathlib.Core.Path.{◌≡◌, refl, sym, ap, ap₂, ◌∙◌, subst}
-use mathlib.Core.List.{List, ◌++◌}
+use mathlib.Core.List.{List, [], ◌++◌, append-nil}
 use Prim.Native.Nat.{ℕ, zero, suc, ◌+◌, ◌*◌, ◌-◌, ◌/◌, ◌%◌, ◌<◌, ◌≤◌}
 use native.Mathlib.Omega.{arith}
 use native.Mathlib.Decide.{ℕ_discrete}
-use lib.ListN.{length, get_or, set, length-append}
-use lib.Seq.{paste}
+use lib.ListN.{length, get_or, set, take, drop, length-append}
+use lib.Seq.{paste, length-take-le}
+use Rattle.std.proofs.lemmas.List.{get_or-take, drop_all}
 use Rattle.three.specs.Lists.{tabulate, over}
-use Rattle.three.proofs.Lists.{tabulate_ext, length_tabulate, get_or_tabulate}
+use Rattle.three.proofs.Lists.{tabulate_ext, tabulate_get_or, length_tabulate, get_or_tabulate}
 use Rattle.three.proofs.Loops.{Stored, stored_next, stored_last, over_paste}
 use Rattle.circuit.specs.declared.Counts.{Counts}
 use Rattle.circuit.specs.Table.{table_length, literals, literals_at, gates_at}
@@ -16,10 +17,6 @@ use Rattle.drawn.specs.Numbers.{pairs}
 use Rattle.drawn.specs.Drawing.{Drawing, next_literal, single, left, right, reset, gate_at, name, rename, table}
 use Rattle.names.specs.Naming.{renamed_by}
 use Rattle.names.specs.Tabling.{table_by, Tabled}
-
-pub renamed_is : (names : List ℕ) (x w : ℕ) → w ≡ x → 2 * get_or names (w / 2) 0 + x % 2 ≡ renamed_by names x
-unfolding renamed_by
-renamed_is names x w e = ap (λ (n : ℕ). 2 * get_or names (n / 2) 0 + x % 2) e
 
 pairs_ext : (n : ℕ) (f g f' g' : ℕ → ℕ) → ((i : ℕ) → i < n → f i ≡ f' i) → ((i : ℕ) → i < n → g i ≡ g' i) → pairs n f g ≡ pairs n f' g'
 unfolding pairs
@@ -117,12 +114,30 @@ module _ (c : Counts) (words names order : List ℕ) where
     pub gate_within : Tabled c words names order → g + 2 * i + (k - g) % 2 < table_length c
     gate_within t = subst (λ g. g ≤ k → i ≡ get_or order ((k - g) / 2) 0 → g + 2 * i + (k - g) % 2 < table_length c) (sym e) (λ l is. gate_word t k i l h is) l is
 
--- ---- the loop that stores the words from the front
+-- ---- the loop that stores the words in the front of the table
 
-pub fill_next : (t s : List ℕ) (n : ℕ) (e : List ℕ) (i v : ℕ) → n ≤ length t → length s ≡ n → Stored t 0 s n e i → i < n → v ≡ get_or s i 0 → Stored t 0 s n (set e i v) (i + 1)
-fill_next t s n e i v room long c h is =
-    let z : 0 + i ≡ i = omega arith in
-    rw z at (stored_next t 0 s n (omega arith) (omega (arith, long)) e i v 0 c h is)
+module _ (t s : List ℕ) (m n : ℕ) (is : m ≡ n) (room : n ≤ length t) (long : length s ≡ n) (e : List ℕ) (i : ℕ) (c : Stored (take m t) 0 s n e i) where
+  front : length (take m t) ≡ n
+  front = length-take-le m t (omega arith) ∙ is
 
-pub fill_last : (t s : List ℕ) (n : ℕ) (e : List ℕ) (i : ℕ) → length s ≡ n → Stored t 0 s n e i → n ≤ i → e ≡ over s t
-fill_last t s n e i long c h = stored_last t 0 s n e i c h ∙ ap (λ (m : ℕ). paste t 0 s m) (sym long) ∙ over_paste t s
+  pub fill_next : (v : ℕ) → i < length (take m t) → v ≡ get_or s i 0 → Stored (take m t) 0 s n (set e i v) (i + 1)
+  fill_next v h q =
+      let z : 0 + i ≡ i = omega arith in
+      rw z at (stored_next (take m t) 0 s n (omega (arith, front)) (omega arith) e i v 0 c (omega (arith, front)) q)
+
+  pub fill_last : length (take m t) ≤ i → e ++ drop m t ≡ over s t
+  unfolding over
+  fill_last h =
+      let all : e ≡ over s (take m t) = stored_last (take m t) 0 s n e i c (omega (arith, front)) ∙ ap (λ (m' : ℕ). paste (take m t) 0 s m') (sym long) ∙ over_paste (take m t) s in
+      let beyond : drop (length s) (take m t) ≡ [] = drop_all (length s) (take m t) (omega (arith, front)) in
+      let same : e ≡ s = all ∙ ap (λ l. s ++ l) beyond ∙ append-nil s in
+      rw (same, is, ← long) refl
+
+-- the first ones, copied to the front
+pub copied_over : (n : ℕ) (list buffer copy : List ℕ) → n ≤ length list → copy ≡ take n list → copy ++ drop n buffer ≡ over (tabulate n (λ v. get_or list v 0)) buffer
+unfolding over
+copied_over n list buffer copy h e =
+    let long : length (take n list) ≡ n = length-take-le n list h in
+    let same : tabulate n (λ v. get_or list v 0) ≡ take n list =
+    (tabulate_ext n (λ v. get_or list v 0) (λ v. get_or (take n list) v 0) (λ i k. sym (get_or-take n list i 0 k)) ∙ ap (λ (m : ℕ). tabulate m (λ v. get_or (take n list) v 0)) (sym long) ∙ tabulate_get_or (take n list) 0) in
+    rw (e, same, long) refl

@@ -20,7 +20,7 @@ fn line_at(owns: &[u32], order: &[u16; 4096], leaves: usize, gates: usize, r: us
     if r < leaves {
         return r;
     }
-    leaves + order::wide(order[r - leaves])
+    leaves + order[r - leaves] as usize
 }
 
 // Old variable to new: an entry for each variable, 0 for the constant and for one without a line.
@@ -37,7 +37,7 @@ pub fn name_lines(
     let lines = leaves + gates;
     for r in 0..lines {
         let k = line_at(owns, order, leaves, gates, r);
-        let v = defined::own_literal(owns[k]) / 2;
+        let v = owns[k] as usize / 2;
         names[v] = (r + 1) as u16;
     }
 }
@@ -47,7 +47,7 @@ fn renamed(names: &[u16; 4096], x: u16) -> u16
     requires { (x < 8192) × Numbers names.now }
     ensures { result ≡ renamed_by names.now x }
 {
-    2 * names[order::wide(x) / 2] + x % 2
+    2 * names[(x / 2) as usize] + x % 2
 }
 
 // Word k of the table: latches and lines of one literal as they stand, gates in their order, literals in the new numbers.
@@ -55,9 +55,8 @@ fn word_at(counts: Counts, words: &[u16], names: &[u16; 4096], order: &[u16; 409
     requires { Tabled counts words.now names.now order.now × (k < table_length counts) }
     ensures { result ≡ get_or (table_by counts words.now names.now order.now) k 0 }
 {
-    let literals = circuit::literals_at(counts);
-    let gates = circuit::gates_at(counts);
-    if k < literals {
+    let gates = counts.gates_at();
+    if k < counts.literals_at() {
         if k % 2 == 1 {
             return words[k];
         }
@@ -67,7 +66,7 @@ fn word_at(counts: Counts, words: &[u16], names: &[u16; 4096], order: &[u16; 409
         return renamed(names, words[k]);
     }
     let j = k - gates;
-    let i = order::wide(order[j / 2]);
+    let i = order[j / 2] as usize;
     renamed(names, words[gates + 2 * i + j % 2])
 }
 
@@ -82,9 +81,8 @@ pub fn fill_table(
     requires { Tabled counts words.now names.now order.now × (table_length counts ≤ length table.old) }
     ensures { table.new ≡ over (table_by counts words.now names.now order.now) table.old }
 {
-    let n = table::table_length(counts);
-    for k in 0..n {
-        table[k] = word_at(counts, words, names, order, k);
+    for (k, word) in table[..counts.table_length()].iter_mut().enumerate() {
+        *word = word_at(counts, words, names, order, k);
     }
 }
 
@@ -93,9 +91,7 @@ fn store_names(names: &[u16; 4096], count: usize, renumbered: &mut [u16])
     requires { (length names.now ≡ 4096) × (count ≤ 4096) × (count ≤ length renumbered.old) }
     ensures { renumbered.new ≡ over (tabulate count (λ v. get_or names.now v 0)) renumbered.old }
 {
-    for v in 0..count {
-        renumbered[v] = names[v];
-    }
+    renumbered[..count].copy_from_slice(&names[..count]);
 }
 
 // Table and list of a drawing that 20, 21 and 22 do not refuse.

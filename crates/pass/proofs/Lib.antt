@@ -1,3 +1,3 @@
-pub mod Values
+pub mod WorkingTable
 pub mod Passing
 pub mod Settling

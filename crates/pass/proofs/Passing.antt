@@ -14,7 +14,7 @@ use Rattle.circuit.specs.Circuit.{Gate, value, pass}
 use Rattle.circuit.specs.RulesInCode.{gates_from}
 use Rattle.pass.specs.ValuesInCode.{values_of, Working, Holding, Gateable, passed}
 use Rattle.circuit.proofs.Pass.{value_take, length_pass}
-use Rattle.pass.proofs.Values.{length_values}
+use Rattle.pass.proofs.WorkingTable.{length_values}
 
 module _ (words : List ℕ) (at first count : ℕ) where
   -- a working table has room for the gates

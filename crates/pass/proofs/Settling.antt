@@ -15,7 +15,7 @@ use Rattle.circuit.specs.Table.{top, circuit_of, literals_at, constraints_at, ga
 use Rattle.circuit.specs.RulesInCode.{Legal}
 use Rattle.pass.specs.ValuesInCode.{values_of, Working, Holding, Begins, Gateable, Readable, literal_values, passed}
 use Rattle.circuit.proofs.Pass.{value_take, length_pass}
-use Rattle.pass.proofs.Values.{length_values}
+use Rattle.pass.proofs.WorkingTable.{length_values}
 use Rattle.three.specs.Lists.{tabulate}
 
 module _ (c : Counts) (words : List ℕ) (legal : Legal c words) where

@@ -13,84 +13,79 @@ ghost use Rattle.circuit.specs.Table.{circuit_of};
 ghost use Rattle.circuit.specs.RulesInCode.{Legal};
 ghost use Rattle.pass.specs.ValuesInCode.{values_of, fresh_values, Working, Holding, Begins, sign_table, Gateable, Readable, literal_values, passed};
 
-use circuit::Counts;
+use circuit::Board;
 
 // A working table of 4,096 values, packed as a record: two bits each.
 const VALUE_BYTES: usize = 1024;
 
-pub type Values = [u8; VALUE_BYTES];
-
-// It is made and reached through these three functions alone.
-pub fn fresh_values() -> Values
-    ensures { Holding result fresh_values }
-{
-    let mut values = [0u8; VALUE_BYTES];
-    put_variable(&mut values, 0, 1); // the constant
-    values
+#[derive(Drop)]
+pub struct Values {
+    pub bytes: [u8; VALUE_BYTES],
+    pub ghost working: { Working bytes },
 }
 
-pub fn variable(values: &Values, v: usize) -> u8
-    requires { (v < 4096) × Working values.now }
-    ensures { result ≡ code (get_or (values_of values.now) v low) }
-{
-    three::field(values, v)
-}
+// It is made and reached through these methods alone.
+impl Values {
+    pub fn fresh() -> Self
+        ensures { Holding result.bytes fresh_values }
+    {
+        let mut values = Values {
+            bytes: [0; VALUE_BYTES],
+        };
+        values.put(0, 1); // the constant
+        values
+    }
 
-fn put_variable(values: &mut Values, v: usize, x: u8)
-    requires { (v < 4096) × (x < 3) × Working values.old }
-    ensures { Holding values.new (set (values_of values.old) v (decode x)) }
-{
-    values[v / 4] = three::put_field(values[v / 4], v % 4, x);
+    pub fn get(&self, v: usize) -> u8
+        requires { v < 4096 }
+        ensures { result ≡ code (get_or (values_of self.now.bytes) v low) }
+    {
+        three::field(&self.bytes, v)
+    }
+
+    fn put(&mut self, v: usize, x: u8)
+        requires { (v < 4096) × (x < 3) }
+        ensures { Holding self.new.bytes (set (values_of self.old.bytes) v (decode x)) }
+    {
+        self.bytes[v / 4] = three::put_field(self.bytes[v / 4], v % 4, x);
+    }
 }
 
 // A value as it is, and inverted: "Inverting swaps 0 and 1 and keeps X.".
-const SIGN: [[u8; 3]; 2] = [[0, 1, 2], [0, 2, 1]];
-
-// As the gate table, made once and lent to each reading.
-pub fn sign_table() -> [[u8; 3]; 2]
-    ensures { result ≡ sign_table }
-{
-    SIGN
-}
+static SIGN: [[u8; 3]; 2] = [[0, 1, 2], [0, 2, 1]];
 
 // A literal is 2 × variable, plus 1 if inverted.
-pub fn literal(signs: &[[u8; 3]; 2], values: &Values, x: u16) -> u8
-    requires { (signs.now ≡ sign_table) × (x < 8192) × Working values.now }
-    ensures { result ≡ code (value ternary (values_of values.now) x) }
+pub fn literal(values: &Values, x: u16) -> u8
+    requires { x < 8192 }
+    ensures { result ≡ code (value ternary (values_of values.now.bytes) x) }
 {
-    let v = variable(values, (x / 2) as usize);
-    signs[(x % 2) as usize][v as usize]
+    let v = values.get((x / 2) as usize);
+    SIGN[(x % 2) as usize][v as usize]
 }
 
-fn gate(answers: &[[u8; 3]; 3], signs: &[[u8; 3]; 2], values: &Values, left: u16, right: u16) -> u8
-    requires { (answers.now ≡ gate_table) × (signs.now ≡ sign_table) × (left < 8192) × (right < 8192) × Working values.now }
-    ensures { result ≡ code (both (value ternary (values_of values.now) left) (value ternary (values_of values.now) right)) }
+fn gate(values: &Values, left: u16, right: u16) -> u8
+    requires { (left < 8192) × (right < 8192) }
+    ensures { result ≡ code (both (value ternary (values_of values.now.bytes) left) (value ternary (values_of values.now.bytes) right)) }
 {
-    three::and3(
-        answers,
-        literal(signs, values, left),
-        literal(signs, values, right),
-    )
+    three::and3(literal(values, left), literal(values, right))
 }
 
 // Gates are taken in order: those from word `at` on, the first of them variable `first`.
 fn gates(table: &[u16], at: usize, first: usize, count: usize, values: &mut Values)
-    requires { Gateable table.now at first count × Working values.old }
-    ensures { Holding values.new (passed table.now at first count (values_of values.old)) }
+    requires { Gateable table.now at first count }
+    ensures { Holding values.new.bytes (passed table.now at first count (values_of values.old.bytes)) }
 {
-    let answers = three::gate_table();
-    let signs = sign_table();
     for i in 0..count {
         let p = at + 2 * i;
-        let v = gate(&answers, &signs, values, table[p], table[p + 1]);
-        put_variable(values, first + i, v);
+        let v = gate(values, table[p], table[p + 1]);
+        values.put(first + i, v);
     }
 }
 
 // Gates that fill whole bytes of the working table, from byte number `byte` on.
 fn gate_bytes(table: &[u16], at: usize, byte: usize, count: usize, values: &mut Values)
-    requires { Gateable table.now at (4 * byte) (4 * count) × Working values.old }
-    ensures { Holding values.new (passed table.now at (4 * byte) (4 * count) (values_of values.old)) }
+    requires { Gateable table.now at (4 * byte) (4 * count) }
+    ensures { Holding values.new.bytes (passed table.now at (4 * byte) (4 * count) (values_of values.old.bytes)) }
 {
     for k in 0..count {
         gates(table, at + 8 * k, 4 * (byte + k), 4, values);
@@ -99,8 +94,8 @@ fn gate_bytes(table: &[u16], at: usize, byte: usize, count: usize, values: &mut 
 
 // All of them. The four gates of a byte stand together, so that the compiler knows their places in it: a run takes a fifth less time.
 fn all_gates(table: &[u16], at: usize, first: usize, count: usize, values: &mut Values)
-    requires { Gateable table.now at first count × Working values.old }
-    ensures { Holding values.new (passed table.now at first count (values_of values.old)) }
+    requires { Gateable table.now at first count }
+    ensures { Holding values.new.bytes (passed table.now at first count (values_of values.old.bytes)) }
 {
     let front = 3 - (first + 3) % 4;
     if count < front {
@@ -116,88 +111,45 @@ fn all_gates(table: &[u16], at: usize, first: usize, count: usize, values: &mut 
 
 // The fields of a record as the values of the variables from `first` on.
 fn load(bytes: &[u8], first: usize, count: usize, values: &mut Values)
-    requires { IsRecord count bytes.now × (first + count ≤ 4096) × Working values.old }
-    ensures { Holding values.new (paste (values_of values.old) first (unpack count bytes.now) count) }
+    requires { IsRecord count bytes.now × (first + count ≤ 4096) }
+    ensures { Holding values.new.bytes (paste (values_of values.old.bytes) first (unpack count bytes.now) count) }
 {
     for i in 0..count {
         let v = three::field(bytes, i);
-        put_variable(values, first + i, v);
+        values.put(first + i, v);
     }
 }
 
 // One pass over a state, for the constant and the switches that stand in the table: the state, and then each gate in order.
-pub fn settle_state(counts: Counts, table: &[u16], state: &[u8], values: &mut Values)
-    requires { Legal counts table.now × IsRecord counts.latches state.now × Working values.old }
-    ensures { Begins values.new (pass ternary (take (1 + counts.inputs) (values_of values.old) ++ unpack counts.latches state.now) (circuit_of counts table.now).gates) }
+pub fn settle_state(board: &Board<'_>, state: &[u8], values: &mut Values)
+    requires { IsRecord board.now.counts.latches state.now }
+    ensures { Begins values.new.bytes (pass ternary (take (1 + board.now.counts.inputs) (values_of values.old.bytes) ++ unpack board.now.counts.latches state.now) (circuit_of board.now.counts board.now.table.now).gates) }
 {
-    let first = 1 + counts.inputs;
-    load(state, first, counts.latches, values);
+    let first = 1 + board.counts.inputs;
+    load(state, first, board.counts.latches, values);
     all_gates(
-        table,
-        circuit::gates_at(counts),
-        first + counts.latches,
-        counts.gates,
+        board.table,
+        board.counts.gates_at(),
+        first + board.counts.latches,
+        board.counts.gates,
         values,
     );
 }
 
 // One pass: the constant, the switches, the state, and then each gate in order.
-pub fn settle(counts: Counts, table: &[u16], state: &[u8], switches: &[u8], values: &mut Values)
-    requires { Legal counts table.now × IsRecord counts.latches state.now × IsRecord counts.inputs switches.now × Working values.old }
-    ensures { Begins values.new (settle_values ternary (circuit_of counts table.now) (unpack counts.inputs switches.now) (unpack counts.latches state.now)) }
+pub fn settle(board: &Board<'_>, state: &[u8], switches: &[u8], values: &mut Values)
+    requires { IsRecord board.now.counts.latches state.now × IsRecord board.now.counts.inputs switches.now }
+    ensures { Begins values.new.bytes (settle_values ternary (circuit_of board.now.counts board.now.table.now) (unpack board.now.counts.inputs switches.now) (unpack board.now.counts.latches state.now)) }
 {
-    put_variable(values, 0, 1);
-    load(switches, 1, counts.inputs, values);
-    settle_state(counts, table, state, values);
+    values.put(0, 1);
+    load(switches, 1, board.counts.inputs, values);
+    settle_state(board, state, values);
 }
 
-// Literal number i of `count`, one every `step` words from word `at` on; a field beyond them is X.
-fn literal_field(
-    signs: &[[u8; 3]; 2],
-    values: &Values,
-    table: &[u16],
-    at: usize,
-    step: usize,
-    count: usize,
-    i: usize,
-) -> u8
-    requires { (signs.now ≡ sign_table) × Readable table.now at step count × Working values.now }
-    ensures { result ≡ code (get_or (literal_values (values_of values.now) table.now at step count) i unknown) }
-{
-    if i >= count {
-        return 0;
-    }
-    literal(signs, values, table[at + step * i])
-}
-
-// Byte number k of the record of those literals' values.
-fn literal_byte(
-    signs: &[[u8; 3]; 2],
-    values: &Values,
-    table: &[u16],
-    at: usize,
-    step: usize,
-    count: usize,
-    k: usize,
-) -> u8
-    requires { (signs.now ≡ sign_table) × Readable table.now at step count × Working values.now × (k < 4096) }
-    ensures { result ≡ byte_at (literal_values (values_of values.now) table.now at step count) k }
-{
-    let i = 4 * k;
-    let a = literal_field(signs, values, table, at, step, count, i);
-    let b = literal_field(signs, values, table, at, step, count, i + 1);
-    let c = literal_field(signs, values, table, at, step, count, i + 2);
-    let d = literal_field(signs, values, table, at, step, count, i + 3);
-    three::byte_of(a, b, c, d)
-}
-
-// That record, into the front of `out`.
+// The record of the values of `count` literals, one every `step` words from word `at` on, into the front of `out`.
 pub fn store(values: &Values, table: &[u16], at: usize, step: usize, count: usize, out: &mut [u8])
-    requires { Readable table.now at step count × Working values.now × (count ≤ 4096) × (bytes_for count ≤ length out.old) }
-    ensures { out.new ≡ over (pack (literal_values (values_of values.now) table.now at step count)) out.old }
+    requires { Readable table.now at step count × (count ≤ 4096) × (bytes_for count ≤ length out.old) }
+    ensures { out.new ≡ over (pack (literal_values (values_of values.now.bytes) table.now at step count)) out.old }
 {
-    let signs = sign_table();
-    for k in 0..three::record_length(count) {
-        out[k] = literal_byte(&signs, values, table, at, step, count, k);
-    }
+    three::store_fields(count, |i| literal(values, table[at + step * i]), out);
 }

@@ -1,7 +1,7 @@
 -- The second pass, turn by turn: what is left of the text has the words that are left of the table. Assumes nothing.
 use mathlib.Core.Path.{◌≡◌, refl, sym, ◌∙◌, ap}
 use mathlib.Core.List.{List, [], ◌∷◌, ◌++◌}
-use Prim.Native.Nat.{ℕ, ◌+◌, ◌*◌, ◌≤◌, ◌<◌}
+use Prim.Native.Nat.{ℕ, zero, suc, ◌+◌, ◌*◌, ◌≤◌, ◌<◌}
 use native.Mathlib.Omega.{arith}
 use lib.ListN.{length, get_or, length-append}
 use lib.Seq.{sets, length-sets}
@@ -9,16 +9,16 @@ use Rattle.three.specs.Lists.{over}
 use Rattle.circuit.specs.declared.Counts.{Counts}
 use Rattle.circuit.specs.RulesInCode.{Passed, Bounded}
 use Rattle.circuit.specs.Table.{top, Kind, several, row_tests, literal_tests, operand_tests}
-use Rattle.circuit.proofs.Refusals.{passed_append}
+use Rattle.circuit.proofs.Refusals.{passes, passed_append}
 use Rattle.text.proofs.Spelling.{words_below}
-use Rattle.text.specs.Line.{read_line}
-use Rattle.text.specs.Outcome.{accepted, leaves}
-use Rattle.text.specs.Text.{words, line_tests, Lines, circuit_lines}
-use Rattle.lines.specs.declared.ReadLine.{ReadLine}
-use Rattle.lines.specs.LinesInCode.{from, numbers_of, LineFound}
-use Rattle.reader.specs.ReaderInCode.{Reads, WordsFit, lines_of, body_words, Stand, stand, Fillable, Filled}
-use Rattle.text.proofs.Steps.{LineRead, line_accepted, line_numbered}
-use Rattle.lines.proofs.Finding.{line_read}
+use Rattle.text.specs.Outcome.{Outcome, accepted, refused, onward, leaves}
+use Rattle.text.specs.OutcomeInCode.{after}
+use Rattle.text.specs.Text.{words, line_tests, Lines}
+use Rattle.text.proofs.Outcomes.{accepted_same, refused_accepted}
+use Rattle.lines.specs.declared.read_line.ReadLine.{ReadLine}
+use Rattle.lines.specs.LinesInCode.{from, numbers_of}
+use Rattle.reader.specs.ReaderInCode.{Reads, LineShown, WordsFit, lines_of, body_words, Stand, stand, Fillable, Filled}
+use Rattle.text.proofs.Steps.{line_numbered}
 use Rattle.text.proofs.Stores.{sets_append, sets_front}
 use Rattle.text.proofs.Tables.{lines_from, lines_first, lines_next, lines_last}
 
@@ -36,19 +36,28 @@ pub record Turn (read : Reads) (text : List ℕ) (k : Kind) (ks : List Kind) (at
   pub accepts : read ks (from text next) ≡ accepted (lines_of read ks (from text next))
   pub gives : ws ++ body_words read ks (from text next) ≡ body_words read (k ∷ ks) (from text at)
 
-pub line_turn : (ending : List ℕ) {text : List ℕ} {at : ℕ} {l : ReadLine} {ws : List ℕ} (c : Counts) (k : Kind) (ks : List Kind) → Bounded c → LineFound text (read_line ending (from text at)) l → ws ≡ words k (numbers_of l)
-    → circuit_lines ending c (k ∷ ks) (from text at) ≡ accepted (lines_of (circuit_lines ending c) (k ∷ ks) (from text at)) → Turn (circuit_lines ending c) text k ks at l.next ws
+after_accepted : {A : Type 0} (n : ℕ) {o : Outcome A} {a : A} → after n o ≡ accepted a → (0 ≡ n) × (o ≡ accepted a)
+after_accepted zero e = (refl, e)
+after_accepted (suc n) e = absurd (refused_accepted e)
+
+onward_accepted : {A B : Type 0} (f : A → B) (o : Outcome A) {b : B} → onward f o ≡ accepted b → (a : A) × (o ≡ accepted a) × (f a ≡ b)
+unfolding onward
+onward_accepted f (accepted a) e = (a, refl, accepted_same e)
+onward_accepted f (refused n) e = absurd (refused_accepted e)
+
+pub line_turn : {read : ℕ → Reads} {text : List ℕ} {at : ℕ} {l : ReadLine} {ws : List ℕ} (c : Counts) (k : Kind) (ks : List Kind) → Bounded c → LineShown read text at k l → ws ≡ words k (numbers_of l)
+    → read (top c) (k ∷ ks) (from text at) ≡ accepted (lines_of (read (top c)) (k ∷ ks) (from text at)) → Turn (read (top c)) text k ks at l.next ws
 unfolding lines_of leaves
-line_turn ending {text} {at} {l} c k ks b g w accepts =
-    let r : LineRead ending (line_tests (top c)) k ks (from text at) (lines_of (circuit_lines ending c) (k ∷ ks) (from text at)) = line_accepted ending (line_tests (top c)) k ks _ (line_numbered (top c) k) accepts in
-    let q = line_read l g r.split in
-    let on : circuit_lines ending c ks (from text l.next) ≡ accepted r.others = rw q.1 r.on in
-    let same : lines_of (circuit_lines ending c) ks (from text l.next) ≡ r.others = ap (leaves (λ (l : Lines). l) _) on in
+line_turn {read} {text} {at} {l} {ws} c k ks b f w accepts =
+    let p = after_accepted _ (sym (f.says (top c) ks) ∙ accepts) in
+    let others = onward_accepted f.adds _ p.1 in
+    let on : read (top c) ks (from text l.next) ≡ accepted others.0 = others.1 in
+    let same : lines_of (read (top c)) ks (from text l.next) ≡ others.0 = ap (leaves (λ (l : Lines). l) _) on in
     rw w (record {
-      within = g.within;
-      small = rw q.0 (words_small (top c) k r.numbers (omega arith) r.passes);
+      within = f.within;
+      small = words_small (top c) k (numbers_of l) (omega arith) (passes _ (line_numbered (top c) k (numbers_of l)) p.0);
       accepts = on ∙ ap accepted (sym same);
-      gives = rw q.0 (ap (λ (o : Lines). words k r.numbers ++ o.words) same ∙ ap (λ (o : Lines). o.words) r.gives);
+      gives = ap (λ (o : Lines). words k (numbers_of l) ++ o.words) same ∙ sym (f.words others.0) ∙ ap (λ (o : Lines). o.words) others.2;
     })
 
 module _ {read : Reads} {text : List ℕ} {k : Kind} {ks : List Kind} {at next : ℕ} {ws : List ℕ} (t : Turn read text k ks at next ws) {p : ℕ} {table : List ℕ} (f : Fillable read text (stand (k ∷ ks) at p table)) where
@@ -91,17 +100,22 @@ module _ {read : Reads} {text : List ℕ} {kind : ℕ → Kind} {own n : ℕ} {k
   filling_first {at} {p} {q} {table} f e = record { few = omega arith; on = rw (e, ← (lines_first kind own n ks)) (filled_none f) }
 
   module _ {s : Stand} {next p i : ℕ} {table : List ℕ} (f : Filling read text kind own n ks s next p i table) where
-    module _ (h : i < n) {to : ℕ} {ws : List ℕ}
-        (turn : read (kind (own + 2 * i) ∷ lines_from kind own n ks (i + 1)) (from text next) ≡ accepted (lines_of read (kind (own + 2 * i) ∷ lines_from kind own n ks (i + 1)) (from text next))
-        → Turn read text (kind (own + 2 * i)) (lines_from kind own n ks (i + 1)) next to ws) where
+    module _ (h : i < n) where
       here : Filled read text s (stand (kind (own + 2 * i) ∷ lines_from kind own n ks (i + 1)) next p table)
       here = rw (lines_next kind own n ks i h) at f.on
 
-      pub filling_fits : WordsFit ws p table
-      filling_fits = turn_fits (turn here.left.accepts) here.left
+      -- the next line is read in front of the others
+      pub filling_accepts : read (kind (own + 2 * i) ∷ lines_from kind own n ks (i + 1)) (from text next) ≡ accepted (lines_of read (kind (own + 2 * i) ∷ lines_from kind own n ks (i + 1)) (from text next))
+      filling_accepts = here.left.accepts
 
-      pub filling_next : {table' : List ℕ} {q : ℕ} → table' ≡ sets table p ws → q ≡ p + length ws → Filling read text kind own n ks s to q (i + 1) table'
-      filling_next {table'} {q} t r = record { few = omega arith; on = rw r (filled_then here (turn_filled (turn here.left.accepts) here.left t)) }
+      module _ {to : ℕ} {ws : List ℕ}
+          (turn : read (kind (own + 2 * i) ∷ lines_from kind own n ks (i + 1)) (from text next) ≡ accepted (lines_of read (kind (own + 2 * i) ∷ lines_from kind own n ks (i + 1)) (from text next))
+          → Turn read text (kind (own + 2 * i)) (lines_from kind own n ks (i + 1)) next to ws) where
+        pub filling_fits : WordsFit ws p table
+        filling_fits = turn_fits (turn here.left.accepts) here.left
+
+        pub filling_next : {table' : List ℕ} {q : ℕ} → table' ≡ sets table p ws → q ≡ p + length ws → Filling read text kind own n ks s to q (i + 1) table'
+        filling_next {table'} {q} t r = record { few = omega arith; on = rw r (filled_then here (turn_filled (turn here.left.accepts) here.left t)) }
 
     pub filling_last : {q : ℕ} → n ≤ i → q ≡ p → Filled read text s (stand ks next q table)
     filling_last h e = rw (e, ← (lines_last kind own n ks i h)) f.on

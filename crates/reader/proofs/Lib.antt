@@ -1,4 +1,4 @@
-pub mod Opening
+pub mod FirstLine
 pub mod Judging
 pub mod Bodies
 pub mod Filling

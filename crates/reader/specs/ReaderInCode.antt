@@ -1,19 +1,21 @@
 -- What the functions of the reader answer: positions in place of the texts that are left; nothing here has to be believed. Assumes nothing.
-use Rattle.std.specs.Prelude.{◌≡◌, Bool, true, false, List, [], ℕ, ◌+◌, ◌*◌, ◌≤◌, ◌<◌, length, get_or}
+use Rattle.std.specs.Prelude.{◌≡◌, Bool, true, false, List, [], ◌∷◌, ◌++◌, ℕ, ◌+◌, ◌*◌, ◌≤◌, ◌<◌, length, get_or, Result, Ok, Err}
 use Rattle.std.proofs.lemmas.List.Edits.{sets}
 use Rattle.circuit.specs.declared.Counts.{Counts}
 use Rattle.circuit.specs.Table.{Kind, input, latch, gate, several, kinds, literal, literals}
 use Rattle.circuit.specs.RulesInCode.{Bounded}
-use Rattle.reader.specs.declared.Judged.{Judged}
-use Rattle.reader.specs.declared.Judgement.{Judgement}
+use Rattle.circuit.specs.declared.Refusal.{Refusal}
+use Rattle.circuit.specs.Refusal.{refusal}
+use Rattle.circuit.specs.Answer.{number_of, answered, answer_or}
+use Rattle.reader.specs.declared.Body.{Body}
 use Rattle.reader.specs.declared.Place.{Place}
-use Rattle.reader.specs.declared.Judgement.TheVariants.{Refused, Body}
 use Rattle.text.specs.Part.{got, ill}
 use Rattle.text.specs.Line.{strip}
 use Rattle.text.specs.Outcome.{Outcome, accepted, refused, onward, leaves}
 use Rattle.text.specs.OutcomeInCode.{after}
-use Rattle.text.specs.Text.{Lines, read_opened}
-use Rattle.lines.specs.LinesInCode.{from}
+use Rattle.text.specs.Text.{Lines, words, line_tests, read_opened}
+use Rattle.lines.specs.declared.read_line.ReadLine.{ReadLine}
+use Rattle.lines.specs.LinesInCode.{from, numbers_of}
 
 -- the text opens with these bytes
 unfoldable pub opened : List ℕ → List ℕ → Bool
@@ -30,9 +32,17 @@ unfoldable pub left : Outcome Lines → Outcome (List ℕ)
 left o = onward (λ l. l.rest) o
 
 -- Lines judged that stand in front of any others: their refusal, or else the others decide
-pub record LinesJudged (read : Reads) (text : List ℕ) (at : ℕ) (lines : List Kind → List Kind) (j : Judged) : Type 0 where
-  pub says : (ks : List Kind) → left (read (lines ks) (from text at)) ≡ after j.number (left (read ks (from text j.next)))
-  pub within : j.next ≤ length text
+pub record LinesJudged (read : Reads) (text : List ℕ) (at : ℕ) (lines : List Kind → List Kind) (j : Result ℕ Refusal) : Type 0 where
+  pub says : (ks : List Kind) → left (read (lines ks) (from text at)) ≡ after (answered j) (left (read ks (from text (answer_or 0 j))))
+  pub within : answer_or 0 j ≤ length text
+
+-- A line of a text read by the code: its refusal, or else the lines behind it, with its words in front of theirs, decide
+pub record LineShown (read : ℕ → Reads) (text : List ℕ) (at : ℕ) (k : Kind) (l : ReadLine) : Type 0 where
+  pub adds : Lines → Lines
+  pub rest : (o : Lines) → (adds o).rest ≡ o.rest
+  pub words : (o : Lines) → (adds o).words ≡ words k (numbers_of l) ++ o.words
+  pub says : (most : ℕ) (ks : List Kind) → read most (k ∷ ks) (from text at) ≡ after (refusal (line_tests most k (numbers_of l))) (onward adds (read most ks (from text l.next)))
+  pub within : l.next ≤ length text
 
 -- the lines of a circuit in front of any others
 abbrev pub kinds_then : Counts → List Kind → List Kind
@@ -56,9 +66,9 @@ pub record BodyAt (opening ending : List ℕ) (read : Counts → Reads) (text : 
   pub reads : read_opened opening ending read text ≡ accepted (record { counts = c; words = body_words (read c) (kinds c) (from text at) })
 
 -- A text judged
-abbrev pub TextJudged : List ℕ → List ℕ → (Counts → Reads) → List ℕ → Judgement → Type 0
-TextJudged opening ending read text (Refused n) = read_opened opening ending read text ≡ refused n
-TextJudged opening ending read text (Body c at) = BodyAt opening ending read text c at
+abbrev pub TextJudged : List ℕ → List ℕ → (Counts → Reads) → List ℕ → Result Body Refusal → Type 0
+TextJudged opening ending read text (Err r) = read_opened opening ending read text ≡ refused (number_of r)
+TextJudged opening ending read text (Ok body) = BodyAt opening ending read text body.counts body.at
 
 -- ---- the second pass
 

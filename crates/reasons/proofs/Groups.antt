@@ -1,18 +1,22 @@
 -- Consecutive cubes with the same explanation: when two are the same, and the group that a loop is in. Assumes nothing.
 use mathlib.Core.Path.{◌≡◌, refl, sym, ap, ◌∙◌}
-use mathlib.Core.Bool.{true, false}
+use mathlib.Core.Bool.{Bool, true, false}
 use mathlib.Core.List.{List, [], ◌++◌, append-nil}
 use Prim.Native.Nat.{ℕ, zero, suc, ◌+◌, ◌-◌, ◌≤◌, ◌<◌}
 use native.Mathlib.Omega.{arith}
+use native.Mathlib.Nat.{zero-add}
 use native.Mathlib.Numerals.{add-one}
 use borrow.Author.Tests.{eqb-true, eq-eqb}
 use lib.Dec.{eqb}
+use Rattle.std.specs.Bool.{MatchBool}
+use Rattle.std.specs.List.{range_with_len, AllWithin, HoldsAt}
+use Rattle.std.proofs.lemmas.List.FromFn.{length-range_with_len, get_or-range_with_len}
 use lib.ListN.{length, get_or}
 use Rattle.three.specs.Lists.{every, over}
 use Rattle.three.specs.Value.{unknown, code}
 use Rattle.three.specs.Cube.{Cube, alike, subsumes}
 use Rattle.three.specs.Record.{bytes_for, pack, pair_at}
-use Rattle.three.proofs.Lists.{iff, and_parts, every_at, every_all, tabulate_ext, tabulate_get_or}
+use Rattle.three.proofs.Lists.{iff, and_parts, every_at, every_all, every_fails, tabulate_ext, tabulate_get_or}
 use Rattle.three.proofs.Fields.{alike_same}
 use Rattle.three.proofs.Merge.{subsumes_self}
 use Rattle.three.proofs.Subsuming.{subsumes_both}
@@ -29,6 +33,16 @@ same_equal a b h = let p = and_parts (subsumes a b) (subsumes b a) h in subsumes
 same_self : (a : Cube) → same a a ≡ true
 unfolding same
 same_self a = rw (subsumes_self a)
+
+-- whether all of a range hold, from what a search of it found
+pub all_of_range : (n : ℕ) (p : ℕ → Bool) (r : Bool)
+    → MatchBool r (AllWithin (λ i. p i ≡ true) (range_with_len 0 n) 0 (length (range_with_len 0 n))) ((k : ℕ) × (k < length (range_with_len 0 n)) × HoldsAt (λ i. p i ≡ false) (range_with_len 0 n) k)
+    → r ≡ every n p
+all_of_range n p true h =
+    sym (every_all n p (λ i l. sym (ap p (get_or-range_with_len 0 n i 0 l ∙ zero-add i)) ∙ h i 0 (omega arith) (omega (arith, length-range_with_len 0 n))))
+all_of_range n p false (k, l, h) =
+    let within : k < n = omega (arith, length-range_with_len 0 n) in
+    sym (every_fails n p k within (sym (ap p (get_or-range_with_len 0 n k 0 within ∙ zero-add k)) ∙ h 0))
 
 -- the pairs of a record that was stored
 stored_pair : (f : ℕ) (v : Cube) (d : List ℕ) → length v ≡ f → (i : ℕ) → i < f → pair_at (over (pack v) d) i ≡ code (get_or v i unknown)

@@ -34,10 +34,7 @@ fn put_forced(out: &mut [u8], at: usize, begun: bool, i: usize, field: u8) -> us
 fn has_begun(begun: bool, field: u8) -> bool
     ensures { result ≡ (begun || is_known (decode field)) }
 {
-    if begun {
-        return true;
-    }
-    field != 0
+    begun || field != 0
 }
 
 // The latches that are needed, or that none is.
@@ -80,22 +77,10 @@ pub fn put_line(out: &mut [u8], from: usize, last: usize, why: &[u8], count: usi
     rows::put_bytes(out, end, b"\n")
 }
 
-fn same_field(a: &[u8], b: &[u8], i: usize) -> bool
-    requires { (i + 1 ≤ 4 * length a.now) × (i + 1 ≤ 4 * length b.now) }
-    ensures { result ≡ eqb (pair_at a.now i) (pair_at b.now i) }
-{
-    three::field(a, i) == three::field(b, i)
-}
-
 // Two records have the same fields.
 pub fn same_fields(a: &[u8], b: &[u8], count: usize) -> bool
     requires { (count ≤ 4 * length a.now) × (count ≤ 4 * length b.now) }
     ensures { result ≡ every count (λ i. eqb (pair_at a.now i) (pair_at b.now i)) }
 {
-    for i in 0..count {
-        if !same_field(a, b, i) {
-            return false;
-        }
-    }
-    true
+    (0..count).all(|i| three::field(a, i) == three::field(b, i))
 }

@@ -2,12 +2,8 @@
 #![tactic(auto)]
 
 use reported::REPORT_BYTES;
-use reporting::DECIDING_BYTES;
+use reporting::{DECIDING_BYTES, complain};
 use std::io::{Stderr, Stdout};
-
-fn complain(errors: Stderr, why: &[u8]) {
-    let _ = errors.write_all(why);
-}
 
 // The report on a text, on standard output.
 fn print_report(output: Stdout, errors: Stderr, text: &[u8]) {
@@ -23,12 +19,10 @@ fn main(rt: HostRuntime) {
     let input = rt.stdin();
     let errors = rt.stderr();
     let mut text = [0u8; DECIDING_BYTES];
-    let taken = reporting::take_text(input, &mut text);
-    if taken.failed {
+    let Ok(bytes) = reporting::take_text(input, &mut text) else {
         complain(errors, b"report: standard input was not read to its end\n");
         return;
-    }
-    let bytes = taken.bytes;
+    };
     print_report(rt.stdout(), errors, &text[..bytes]);
     if bytes == DECIDING_BYTES {
         reporting::skip_rest(input);

@@ -75,7 +75,7 @@ module _ (counts : Counts) (table : List ℕ) (accepts : 0 ≡ refusal (circuit_
 
       -- the judge accepts what the chain left
       module _ {q : JudgeAnswer} {verdict' settled' : List ℕ} (judged : Judged own q verdict' settled') where
-        never_refused : q.number ≡ 0
+        pub never_refused : q.number ≡ 0
         unfolding circuit_in
         never_refused =
             judged.answers

@@ -12,6 +12,7 @@ ghost use Rattle.reported.specs.Report.{closing, ending, opening, run_report, Re
 ghost use Rattle.reporting.specs.Reporting.{of_run};
 
 use circuit::Counts;
+use cubes::Chain;
 use reporting::TABLE_WORDS;
 use rows::Row;
 
@@ -57,26 +58,19 @@ fn put_opening(out: &mut [u8], n: usize, j: usize, s: usize) -> usize
     put_closing(out, n, j, s)
 }
 
-// What the two calls answer where they refuse nothing.
-#[derive(Clone, Copy)]
-struct Stopped {
-    cubes: usize,
-    back: usize,
-    settled: usize,
-}
-
 // Closure or end; then each lamp; then each bad state; then each latch.
 fn put_stopped(
     out: &mut [u8],
     counts: Counts,
-    answer: Stopped,
+    chain: Chain,
+    s: usize,
     verdict: &[u8],
     settled: &[u8],
 ) -> usize
     requires { (100 + 34 * verdicts counts + 34 * counts.latches ≤ length out.old) × (counts.lamps ≤ 64) × (verdicts counts ≤ 4 * length verdict.now) × (counts.latches ≤ 4 * length settled.now) }
-    ensures { Put out.old 0 (opening answer.cubes answer.back answer.settled ++ (rows Row.Lamp 0 (take counts.lamps (unpack (verdicts counts) verdict.now)) ++ (rows Row.Bad 0 (drop counts.lamps (unpack (verdicts counts) verdict.now)) ++ rows Row.Latch 0 (unpack counts.latches settled.now)))) out.new result × (result ≤ length out.old) }
+    ensures { Put out.old 0 (opening chain.cubes chain.back s ++ (rows Row.Lamp 0 (take counts.lamps (unpack (verdicts counts) verdict.now)) ++ (rows Row.Bad 0 (drop counts.lamps (unpack (verdicts counts) verdict.now)) ++ rows Row.Latch 0 (unpack counts.latches settled.now)))) out.new result × (result ≤ length out.old) }
 {
-    let lamps = put_opening(out, answer.cubes, answer.back, answer.settled);
+    let lamps = put_opening(out, chain.cubes, chain.back, s);
     let bads = rows::put_rows(out, lamps, Row::Lamp, verdict, 0, counts.lamps);
     let latches = rows::put_rows(out, bads, Row::Bad, verdict, counts.lamps, counts.bads);
     rows::put_rows(out, latches, Row::Latch, settled, 0, counts.latches)
@@ -88,21 +82,23 @@ fn report_run(counts: Counts, table: &[u16], out: &mut [u8; REPORT_BYTES]) -> us
     ensures { Put out.old 0 (of_run run_report (record { counts = counts; words = table.now })) out.new result × (result ≤ length out.old) }
 {
     let mut cubes = [0u8; CUBE_BYTES];
-    let chain = chained::chain(counts, table, INTERVAL, &mut cubes);
-    if chain.number != 0 {
-        return reporting::put_refusal(out, chain.number);
-    }
+    let chain = match chained::chain(counts, table, INTERVAL, &mut cubes) {
+        Ok(chain) => chain,
+        Err(refusal) => return reporting::put_refusal(out, reporting::chain_number(refusal)),
+    };
     let mut verdict = [0u8; LONGEST_VERDICT];
     let mut settled = [0u8; 128];
-    let n = chain.cubes;
-    let j = chain.back;
-    let judged = judged::judge(counts, table, &cubes, n, j, &mut verdict, &mut settled);
-    let answer = Stopped {
-        cubes: n,
-        back: j,
-        settled: judged.settled,
-    };
-    put_stopped(out, counts, answer, &verdict, &settled)
+    let s = judged::judge(
+        counts,
+        table,
+        &cubes,
+        chain.cubes,
+        chain.back,
+        &mut verdict,
+        &mut settled,
+    )
+    .unwrap();
+    put_stopped(out, counts, chain, s, &verdict, &settled)
 }
 
 // The report on a text, at the front of the buffer; how many bytes it has. Nothing is relied on: any text may be handed in.
@@ -110,10 +106,8 @@ pub fn report(text: &[u8], out: &mut [u8; REPORT_BYTES]) -> usize
     ensures { Reported text.now out.old result out.new }
 {
     let mut table = [0u16; TABLE_WORDS];
-    let read = reader::read(text, &mut table);
-    if read.number != 0 {
-        return reporting::put_refusal(out, read.number);
+    match reader::read(text, &mut table) {
+        Ok(counts) => report_run(counts, &table, out),
+        Err(refusal) => reporting::put_refusal(out, refusal.number()),
     }
-    let counts = read.counts;
-    report_run(counts, &table, out)
 }

@@ -4,13 +4,21 @@ use mathlib.Core.List.{List}
 use Prim.Native.Nat.{ℕ, zero, suc, ◌/◌}
 use native.Mathlib.Omega.{arith}
 use lib.ListN.{length}
+use Rattle.std.proofs.Common.{rules}
+use Rattle.std.specs.Prelude.{Result, Ok, Err, IsOk}
 use Rattle.circuit.specs.declared.Counts.{Counts}
+use Rattle.circuit.specs.declared.Refusal.{Refusal}
+use Rattle.circuit.specs.Answer.{answered}
 use Rattle.circuit.specs.Refusal.{refusal, left_by}
 use Rattle.circuit.specs.Table.{lamp_tests, circuit_tests}
 use Rattle.circuit.specs.RulesInCode.{Bounded}
+use Rattle.circuit.proofs.Answering.{numbered}
 use Rattle.circuit.proofs.Refusals.{refused_old}
 use Rattle.circuit.proofs.Legality.{legal, board_decides}
 use Rattle.cubes.specs.declared.ChainAnswer.{ChainAnswer}
+use Rattle.cubes.specs.declared.ChainRefusal.{ChainRefusal}
+use Rattle.cubes.specs.declared.ChainRefusal.TheVariants.{Refused, Full}
+use Rattle.cubes.specs.Answers.{chain_answer}
 use Rattle.cubes.specs.Buffer.{cube_bytes}
 use Rattle.cubes.proofs.StoredCube.{few_bytes}
 use Rattle.cubes.specs.Run.{full, stops, run}
@@ -18,6 +26,16 @@ use Rattle.cubes.specs.Chain.{room_in, ChainGiven, refused_by, circuit_in, outco
 use Rattle.cubes.proofs.Chaining.{says, outcome_is, only_full}
 use Rattle.chained.proofs.Refusing.{board_alone}
 use Rattle.reporting.specs.Reporting.{Saying, refusing, of_run}
+
+-- what the chain refuses has a number
+pub chain_numbered : (e : ChainRefusal) → (chain_answer (Err e)).number ≡ 0 → ⊥
+chain_numbered (Refused r) = numbered r
+chain_numbered (Full n) = λ h. omega arith
+
+-- a call whose number is 0 answers
+pub answers_ok : {A : Type 0} (r : Result A Refusal) → answered r ≡ 0 → IsOk r
+answers_ok (Ok a) h = search rules
+answers_ok (Err e) h = absurd (numbered e h)
 
 module _ (counts : Counts) (table : List ℕ) (accepts : 0 ≡ refusal (circuit_tests counts table)) (cubes : List ℕ) (c : length cubes ≡ 65536) where
   abbrev pub given : ChainGiven

@@ -1,11 +1,14 @@
 // What the programs that report on a circuit share (specification, 6): the text on standard input, and the line on a refusal.
 #![tactic(auto)]
 
-ghost use Rattle.std.specs.Prelude.{◌+◌, ◌≤◌, length};
+ghost use Rattle.std.specs.Prelude.{◌≡◌, ◌≤◌, Err, IfOk, length};
 ghost use Rattle.putting.specs.PutInCode.{Put};
+ghost use Rattle.cubes.specs.Answers.{chain_answer};
 ghost use Rattle.reporting.specs.Reporting.{refusing};
 
-use std::io::{Read, Stdin};
+use cubes::ChainRefusal;
+use std::io;
+use std::io::{Read, Stderr, Stdin};
 
 // The table of any circuit fits: 2 × 512 + 3 × 64 + 2 × 3,327 words.
 pub const TABLE_WORDS: usize = 7870;
@@ -28,50 +31,34 @@ pub fn put_refusal(out: &mut [u8], number: u32) -> usize
     rows::put_bytes(out, end, b"\n")
 }
 
-// What was taken of standard input; a read that failed is no end of the text.
-#[derive(Clone, Copy)]
-pub struct Taken {
-    pub bytes: usize,
-    pub failed: bool,
-}
-
-// One read behind the bytes that are there.
-fn take_some(mut input: Stdin, text: &mut [u8], at: usize) -> Taken
-    requires { at ≤ length text.old }
-    ensures { at + result.bytes ≤ length text.old }
+// The number of a chain's refusal: 15 where there was no room for a cube more.
+pub fn chain_number(refusal: ChainRefusal) -> u32
+    ensures { result ≡ (chain_answer (Err refusal)).number }
 {
-    let room = &mut text[at..];
-    match input.read(room) {
-        Ok(bytes) => Taken {
-            bytes,
-            failed: false,
-        },
-        Err(_) => Taken {
-            bytes: 0,
-            failed: true,
-        },
+    match refusal {
+        ChainRefusal::Refused(refusal) => refusal.number(),
+        ChainRefusal::Full(_) => 15,
     }
 }
 
-// The text to its end, or as much of it as the buffer holds.
-pub fn take_text(input: Stdin, text: &mut [u8]) -> Taken
-    ensures { result.bytes ≤ length text.old }
+// Why a program has nothing to print, or has not printed it, on standard error.
+pub fn complain(errors: Stderr, why: &[u8]) {
+    let _ = errors.write_all(why);
+}
+
+// The text to its end, or as much of it as the buffer holds: how many bytes. A read that fails is no end of the text.
+pub fn take_text(mut input: Stdin, text: &mut [u8]) -> io::Result<usize>
+    ensures { IfOk result (λ bytes. bytes ≤ length text.old) }
 {
     let mut bytes = 0;
     while bytes < text.len() {
-        let more = take_some(input, text, bytes);
-        if more.bytes == 0 {
-            return Taken {
-                bytes,
-                failed: more.failed,
-            };
+        let more = input.read(&mut text[bytes..])?;
+        if more == 0 {
+            break;
         }
-        bytes += more.bytes;
+        bytes += more;
     }
-    Taken {
-        bytes,
-        failed: false,
-    }
+    Ok(bytes)
 }
 
 // How many bytes a read gives of what is left; none at its end, or where it fails.

@@ -8,9 +8,9 @@ use lib.ListN.{length, get_or}
 use Rattle.text.specs.Part.{Part, got, ill}
 use Rattle.text.specs.Line.{newline, prepend, split_line}
 use Rattle.text.proofs.Lines.{Short, split_line_lem}
-use Rattle.lines.specs.declared.ReadLine.{ReadLine}
-use Rattle.lines.specs.declared.ReadNumber.{ReadNumber}
-use Rattle.lines.specs.declared.ReadNumber.TheVariants.{Value, NoNumber}
+use Rattle.std.specs.Prelude.{Option, Some, None}
+use Rattle.lines.specs.declared.Number.{Number}
+use Rattle.lines.specs.declared.read_line.ReadLine.{ReadLine}
 use Rattle.lines.specs.LinesInCode.{from, numbers_of, LineFound, number_part, number_end, NumberFound}
 use Rattle.lines.proofs.Finding.{line_got, line_ill_formed}
 use Rattle.reports.specs.Reports.{read_size, read_sizes, total}
@@ -23,17 +23,17 @@ first_short [] s = omega arith
 first_short (n ∷ ns) s = s.0
 
 module _ (stream t : List ℕ) (l : ReadLine) (found : LineFound stream (split_line newline 1 t) l) where
-  pub size_none : l.count ≡ 0 → SizeFound stream t NoNumber
+  pub size_none : l.count ≡ 0 → SizeFound stream t None
   unfolding read_size number_part number_end value_of
   size_none z = let e = line_ill_formed l found z in record { found = record { reads = rw (read_size, e); within = omega arith }; short = omega arith }
 
-  pub size_some : (l.count ≡ 0 → ⊥) → {n : ℕ} → n ≡ get_or (numbers_of l) 0 0 → SizeFound stream t (Value n l.next)
+  pub size_some : (l.count ≡ 0 → ⊥) → {n : ℕ} → n ≡ get_or (numbers_of l) 0 0 → SizeFound stream t (Some (record { value = n; next = l.next }))
   unfolding read_size number_part number_end value_of
   size_some h {n} e =
       let g = line_got l found (omega arith) in
       record { found = record { reads = rw (read_size, g, e); within = found.within }; short = rw e (first_short (numbers_of l) (split_line_lem newline 1 g).short) }
 
-pub size_bounds : {stream t : List ℕ} {n : ReadNumber} → SizeFound stream t n → {v next : ℕ} → n ≡ Value v next → (next ≤ length stream) × (v < 100000)
+pub size_bounds : {stream t : List ℕ} {n : Option Number} → SizeFound stream t n → {v : Number} → n ≡ Some v → (v.next ≤ length stream) × (v.value < 100000)
 unfolding number_end value_of
 size_bounds found e = (rw e at found.found.within, rw e at found.short)
 
@@ -80,27 +80,27 @@ module _ (stream : List ℕ) (at texts : ℕ) where
   added_first h = record { same = rw sub-zero (raised_none _); within = h; few = omega arith }
 
   module _ {added next k : ℕ} (s : Added added next k) where
-    pub added_last : texts ≤ k → NumberFound stream whole (Value added next)
+    pub added_last : texts ≤ k → NumberFound stream whole (Some (record { value = added; next = next }))
     unfolding read_sizes summed raised total number_part number_end
     added_last h = let z : texts - k ≡ 0 = omega arith in record { reads = s.same ∙ rw (z, add-zero); within = s.within }
 
-    module _ (h : k < texts) {n : ReadNumber} (found : SizeFound stream (from stream next) n) where
+    module _ (h : k < texts) {n : Option Number} (found : SizeFound stream (from stream next) n) where
       turn : texts - k ≡ suc (texts - (k + 1))
       turn = omega arith
 
-      pub added_ill : n ≡ NoNumber → NumberFound stream whole NoNumber
+      pub added_ill : n ≡ None → NumberFound stream whole None
       unfolding summed raised number_part number_end
       added_ill e =
           let no : read_size (from stream next) ≡ ill = rw e at found.found.reads in
           record { reads = s.same ∙ rw (turn, sizes_ill (texts - (k + 1)) (from stream next) no); within = omega arith }
 
-      pub added_next : {v end : ℕ} → n ≡ Value v end → Added (added + v) end (k + 1)
+      pub added_next : {v : Number} → n ≡ Some v → Added (added + v.value) v.next (k + 1)
       unfolding number_part number_end value_of
-      added_next {v} {end} e =
-          let is : read_size (from stream next) ≡ got v (from stream end) = rw e at found.found.reads in
-          let short : v < 100000 = rw e at found.short in
+      added_next {v} e =
+          let is : read_size (from stream next) ≡ got v.value (from stream v.next) = rw e at found.found.reads in
+          let short : v.value < 100000 = rw e at found.short in
           record {
-            same = s.same ∙ rw (turn, sizes_on (texts - (k + 1)) (from stream next) is, summed_prepend v (read_sizes (texts - (k + 1)) (from stream end))) (raised_on added v _);
+            same = s.same ∙ rw (turn, sizes_on (texts - (k + 1)) (from stream next) is, summed_prepend v.value (read_sizes (texts - (k + 1)) (from stream v.next))) (raised_on added v.value _);
             within = rw e at found.found.within;
             few = omega (arith, short, s.few);
           }

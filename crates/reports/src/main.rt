@@ -1,198 +1,125 @@
 // Many reports (specification, 6.3): on standard input how many texts there are, their sizes and the texts, on standard output their reports.
 #![tactic(auto)]
 
-ghost use Rattle.std.specs.Prelude.{◌≡◌, ◌-◌, ◌≤◌, ◌<◌, length};
+ghost use Rattle.std.specs.Prelude.{◌≡◌, ◌-◌, ◌≤◌, ◌<◌, IfOk, length};
 ghost use Rattle.lines.specs.LinesInCode.{from, NumberFound};
 ghost use Rattle.reporting.specs.Reporting.{Piece};
 ghost use Rattle.reports.specs.Reports.{read_sizes};
 ghost use Rattle.reports.specs.ReportsInCode.{SizeFound, summed, left_at, Framed, FrameFound};
 
-use lines::{Ending, ReadNumber};
+use lines::{Ending, Number};
 use reported::REPORT_BYTES;
+use reporting::complain;
+use std::io;
 use std::io::{Stderr, Stdout};
 
 // Room for 64 texts of 4,096 bytes.
 const MOST_STREAM: usize = 262144;
 
 // A size at a position, on a line of its own.
-fn size_at(stream: &[u8], at: usize) -> ReadNumber
+fn size_at(stream: &[u8], at: usize) -> Option<Number>
     requires { at ≤ length stream.now }
     ensures { SizeFound stream.now (from stream.now at) result }
 {
     let found = lines::line(stream, at, Ending::Newline, 1);
     if found.count == 0 {
-        return ReadNumber::NoNumber;
+        return None;
     }
-    let size = lines::entry(found, 0);
-    ReadNumber::Value(size, found.next)
+    Some(Number {
+        value: found.entry(0),
+        next: found.next,
+    })
 }
 
 // What so many sizes make together, and the position behind them.
-fn add_sizes(stream: &[u8], at: usize, texts: usize) -> ReadNumber
+fn add_sizes(stream: &[u8], at: usize, texts: usize) -> Option<Number>
     requires { (at ≤ length stream.now) × (texts < 100000) }
     ensures { NumberFound stream.now (summed (read_sizes texts (from stream.now at))) result }
 {
-    let mut total = 0;
+    let mut value = 0;
     let mut next = at;
     for k in 0..texts {
-        let found = size_at(stream, next);
-        let ReadNumber::Value(size, end) = found else {
-            return ReadNumber::NoNumber;
-        };
-        total += size;
-        next = end;
+        let size = size_at(stream, next)?;
+        value += size.value;
+        next = size.next;
     }
-    ReadNumber::Value(total, next)
+    Some(Number { value, next })
 }
 
-// How many texts there are, and the positions of the first size and of the first text; none where the sizes are no numbers or do not
-// add up to what follows them.
+// What is left of a stream: so many texts, the position of the next one's size, and that of the next one.
 #[derive(Clone, Copy)]
-struct Frame {
-    framed: bool,
+struct Left {
     texts: usize,
     sizes: usize,
     at: usize,
 }
 
-fn no_frame(stream: &[u8]) -> Frame
-    ensures { (result.texts ≡ 0) × (result.sizes ≡ 0) × (result.at ≡ length stream.now) }
+// All of its texts; none where the sizes are no numbers or do not add up to what follows them.
+fn find_frame(stream: &[u8]) -> Option<Left>
+    ensures { FrameFound stream.now result }
 {
-    Frame {
-        framed: false,
-        texts: 0,
-        sizes: 0,
-        at: stream.len(),
+    let count = size_at(stream, 0)?;
+    let sizes = add_sizes(stream, count.next, count.value)?;
+    if sizes.value != stream.len() - sizes.next {
+        return None;
     }
+    Some(Left {
+        texts: count.value,
+        sizes: count.next,
+        at: sizes.next,
+    })
 }
 
-fn find_frame(stream: &[u8]) -> Frame
-    ensures { FrameFound stream.now result.texts result.sizes result.at }
+// The report on the next text in the buffer: how many bytes it has, and what is left behind that text.
+fn put_next(stream: &[u8], left: Left, out: &mut [u8; REPORT_BYTES]) -> (usize, Left)
+    requires { Framed stream.now left × (0 < left.texts) }
+    ensures { Piece (left_at stream.now left) (left_at stream.now result.1) out.old result.0 out.new × Framed stream.now result.1 × (result.1.texts ≡ left.texts - 1) }
 {
-    let count = size_at(stream, 0);
-    let ReadNumber::Value(texts, sizes) = count else {
-        return no_frame(stream);
-    };
-    let added = add_sizes(stream, sizes, texts);
-    let ReadNumber::Value(total, at) = added else {
-        return no_frame(stream);
-    };
-    if total != stream.len() - at {
-        return no_frame(stream);
-    }
-    Frame {
-        framed: true,
-        texts,
-        sizes,
-        at,
-    }
-}
-
-// A report in the buffer: how many bytes it has, and the positions of the next size and of the next text.
-#[derive(Clone, Copy)]
-struct Next {
-    bytes: usize,
-    sizes: usize,
-    at: usize,
-}
-
-// The report on the next of so many texts that are left.
-fn put_next(
-    stream: &[u8],
-    texts: usize,
-    sizes: usize,
-    at: usize,
-    out: &mut [u8; REPORT_BYTES],
-) -> Next
-    requires { Framed stream.now texts sizes at × (0 < texts) }
-    ensures { Piece (left_at stream.now texts sizes at) (left_at stream.now (texts - 1) result.sizes result.at) out.old result.bytes out.new × Framed stream.now (texts - 1) result.sizes result.at }
-{
-    let found = size_at(stream, sizes);
-    let ReadNumber::Value(size, next) = found else {
-        return Next {
-            bytes: 0,
-            sizes,
-            at,
-        };
-    };
-    let end = at + size;
-    let bytes = reported::report(&stream[at..end], out);
-    Next {
-        bytes,
-        sizes: next,
+    let size = size_at(stream, left.sizes).unwrap();
+    let end = left.at + size.value;
+    let bytes = reported::report(&stream[left.at..end], out);
+    let behind = Left {
+        texts: left.texts - 1,
+        sizes: size.next,
         at: end,
-    }
+    };
+    (bytes, behind)
 }
 
-fn complain(errors: Stderr, why: &[u8]) {
-    let _ = errors.write_all(why);
-}
-
-// Prints the report on the next text; the positions of those behind it, and whether it was written.
-#[derive(Clone, Copy)]
-struct Printed {
-    written: bool,
-    sizes: usize,
-    at: usize,
-}
-
-fn print_next(output: Stdout, stream: &[u8], texts: usize, sizes: usize, at: usize) -> Printed
-    requires { Framed stream.now texts sizes at × (0 < texts) }
-    ensures { Framed stream.now (texts - 1) result.sizes result.at }
+// Prints the report on the next text; what is left behind that text.
+fn print_next(output: Stdout, stream: &[u8], left: Left) -> io::Result<Left>
+    requires { Framed stream.now left × (0 < left.texts) }
+    ensures { IfOk result (λ behind. Framed stream.now behind × (behind.texts ≡ left.texts - 1)) }
 {
     let mut out = [0u8; REPORT_BYTES];
-    let next = put_next(stream, texts, sizes, at, &mut out);
-    let bytes = next.bytes;
-    Printed {
-        written: output.write_all(&out[..bytes]).is_ok(),
-        sizes: next.sizes,
-        at: next.at,
-    }
+    let (bytes, behind) = put_next(stream, left, &mut out);
+    output.write_all(&out[..bytes])?;
+    Ok(behind)
 }
 
-// The reports on so many texts, one behind the other.
-fn print_reports(
-    output: Stdout,
-    errors: Stderr,
-    stream: &[u8],
-    texts: usize,
-    first: usize,
-    start: usize,
-)
-    requires { Framed stream.now texts first start }
+// The reports on all texts that are left, one behind the other.
+fn print_reports(output: Stdout, stream: &[u8], all: Left) -> io::Result<()>
+    requires { Framed stream.now all }
 {
-    let mut left = texts;
-    let mut sizes = first;
-    let mut at = start;
-    while left > 0 {
-        let printed = print_next(output, stream, left, sizes, at);
-        if !printed.written {
-            complain(errors, b"reports: the reports were not written\n");
-            return;
-        }
-        left -= 1;
-        sizes = printed.sizes;
-        at = printed.at;
+    let mut left = all;
+    while left.texts > 0 {
+        left = print_next(output, stream, left)?;
     }
+    Ok(())
 }
 
 // What is printed for a stream, on standard output.
 fn print_stream(output: Stdout, errors: Stderr, stream: &[u8]) {
-    let framed = find_frame(stream);
-    if !framed.framed {
+    let Some(texts) = find_frame(stream) else {
         complain(
             errors,
             b"reports: the sizes are no numbers, or do not add up to the texts\n",
         );
+        return;
+    };
+    if print_reports(output, stream, texts).is_err() {
+        complain(errors, b"reports: the reports were not written\n");
     }
-    print_reports(
-        output,
-        errors,
-        stream,
-        framed.texts,
-        framed.sizes,
-        framed.at,
-    );
 }
 
 // A buffer whose length is all that the prover looks at.
@@ -206,12 +133,10 @@ fn room_for_stream() -> [u8; MOST_STREAM]
 fn main(rt: HostRuntime) {
     let errors = rt.stderr();
     let mut stream = room_for_stream();
-    let taken = reporting::take_text(rt.stdin(), &mut stream);
-    if taken.failed {
+    let Ok(bytes) = reporting::take_text(rt.stdin(), &mut stream) else {
         complain(errors, b"reports: standard input was not read to its end\n");
         return;
-    }
-    let bytes = taken.bytes;
+    };
     if bytes == MOST_STREAM {
         complain(errors, b"reports: more than the program has room for\n");
         return;

@@ -1,11 +1,12 @@
 -- Laws of the report's lines in a buffer: a text that is copied, a number of at most 20 digits. Assumes nothing.
-use mathlib.Core.Path.{◌≡◌, refl, sym, ◌∙◌}
+use mathlib.Core.Path.{◌≡◌, refl, sym, ap, ◌∙◌}
 use mathlib.Core.List.{List}
-use Prim.Native.Nat.{ℕ, zero, suc, ◌+◌, ◌≤◌, ◌<◌, ◌^◌}
+use Prim.Native.Nat.{ℕ, zero, suc, ◌+◌, ◌-◌, ◌≤◌, ◌<◌, ◌^◌}
 use native.Mathlib.Omega.{arith}
 use lib.ListN.{length}
-use lib.Seq.{sets-eq, take-length}
-use Rattle.three.proofs.Loops.{Stored, stored_last}
+use lib.Seq.{sets, sets-eq, take-length, length-sets}
+use borrow.Rule.Slice.PartMut.{put_mid}
+use Rattle.std.proofs.lemmas.Slice.{put_mid-paste}
 use Rattle.three.specs.Value.{decode}
 use Rattle.text.specs.Decimal.{decimal}
 use Rattle.putting.specs.PutInCode.{Put}
@@ -13,10 +14,11 @@ use Rattle.text.proofs.Decimals.{length_below}
 use Rattle.putting.proofs.Putting.{put_then}
 use Rattle.rows.specs.Rows.{item, said}
 
--- a text that is stored whole is put
-pub stored_put : (out : List ℕ) (at : ℕ) (text : List ℕ) (e : List ℕ) (i : ℕ) → at + length text ≤ length out
-    → Stored out at text (length text) e i → length text ≤ i → Put out at text e (at + length text)
-stored_put out at text e i room s h = record { same = stored_last out at text (length text) e i s h ∙ rw take-length (sym (sets-eq text out at room)); after = refl; long = s.long }
+-- a text that is copied over a part is put
+pub copied_put : (out : List ℕ) (at : ℕ) (text copy : List ℕ) → at + length text ≤ length out → copy ≡ text → Put out at text (put_mid at (at + length text - at) out copy) (at + length text)
+copied_put out at text copy room e =
+    let same : put_mid at (at + length text - at) out copy ≡ sets out at text = put_mid-paste at _ out copy text (length text) e (omega arith) refl ∙ rw take-length (sym (sets-eq text out at room)) in
+    record { same = same; after = refl; long = ap length same ∙ length-sets out at text }
 
 pub twenty_digits : (n : ℕ) → n < 2 ^ 64 → length (decimal n) ≤ 20
 twenty_digits n h = length_below 19 n (omega arith)

@@ -21,10 +21,9 @@ pub fn put_bytes(out: &mut [u8], at: usize, text: &[u8]) -> usize
     requires { at + length text.now ≤ length out.old }
     ensures { Put out.old at text.now out.new result }
 {
-    for i in 0..text.len() {
-        out[at + i] = text[i];
-    }
-    at + text.len()
+    let end = at + text.len();
+    out[at..end].copy_from_slice(text);
+    end
 }
 
 // A number of any length, by a call for each digit.
@@ -53,13 +52,11 @@ pub fn put_said(out: &mut [u8], at: usize, field: u8, off: &[u8], on: &[u8], eit
     requires { (at + length off.now ≤ length out.old) × (at + length on.now ≤ length out.old) × (at + length either.now ≤ length out.old) }
     ensures { Put out.old at (said off.now on.now either.now (decode field)) out.new result }
 {
-    if field == 0 {
-        return put_bytes(out, at, either);
+    match field {
+        0 => put_bytes(out, at, either),
+        1 => put_bytes(out, at, off),
+        _ => put_bytes(out, at, on),
     }
-    if field == 1 {
-        return put_bytes(out, at, off);
-    }
-    put_bytes(out, at, on)
 }
 
 // A name with its number, and never, always or open.

@@ -2,15 +2,16 @@
 use mathlib.Core.Path.{◌≡◌, refl, sym, ap, ap₂, ◌∙◌}
 use mathlib.Core.Bool.{Bool, true, false, cond}
 use mathlib.Core.List.{List, [], ◌∷◌, ◌++◌}
-use Prim.Native.Nat.{ℕ, ◌+◌, ◌<◌, ◌≤◌}
+use Rattle.std.specs.Prelude.{Some, None}
+use Prim.Native.Nat.{ℕ, ◌<◌, ◌≤◌}
 use native.Mathlib.Omega.{arith}
 use borrow.Author.Tests.{ne_eqb}
 use lib.Dec.{eqb}
 use lib.ListN.{length, take, drop}
-use lib.Seq.{paste, take_at}
+use lib.Seq.{take_at}
 use Rattle.three.specs.Lists.{every, over}
 use Rattle.three.specs.Record.{bytes_for, pack}
-use Rattle.three.proofs.Lists.{by_test, every_at}
+use Rattle.three.proofs.Lists.{by_test}
 use Rattle.three.proofs.Pack.{length_pack}
 use Rattle.circuit.specs.Refusal.{Test, refusal}
 use Rattle.circuit.specs.Table.{ceiling_tests, word_tests, board_tests, verdicts, circuit_of, lamp_tests}
@@ -19,7 +20,7 @@ use Rattle.cubes.specs.Run.{start}
 use Rattle.cubes.specs.Buffer.{cube_in}
 use Rattle.cubes.specs.Given.{cube_tests, covered, next_covered, first_uncovered}
 use Rattle.cubes.proofs.Buffered.{verdict_sized}
-use Rattle.cubes.proofs.Covering.{uncovered_none, uncovered_fails, uncovered_passes}
+use Rattle.cubes.proofs.Covering.{uncovered_fails, uncovered_passes}
 use Rattle.sent.specs.Call.{SentGiven, circuit_in, cubes_in, sent_tests, verdict_fields, Sent}
 use Rattle.cubes.specs.GivenInCode.{given_tests}
 use Rattle.sent.specs.SentInCode.{Walked}
@@ -69,44 +70,43 @@ module _ (g : SentGiven) where
         starts : covered (circuit_of g.counts g.table) (cube_in g.counts.latches g.cubes) g.n (start (circuit_of g.counts g.table)) ≡ true
         starts = sym found ∙ inside
 
-        module _ {cube : ℕ} {seen seen' : List ℕ} (walked : Walked g.counts g.table g.cubes g.n seen cube seen') where
+        -- a next state is in no cube
+        module _ {cube : ℕ} {seen seen' : List ℕ} (walked : Walked g.counts g.table g.cubes g.n seen (Some cube) seen') where
           cube_is : cube ≡ uncovered
           unfolding circuit_in cubes_in
           cube_is = walked.names
 
-          pub next_refused : cube < g.n → Sent g (record { number = 18; cube = cube }) g.verdict
+          pub next_refused : Sent g (record { number = 18; cube = cube }) g.verdict
           unfolding circuit_in cubes_in
-          next_refused h = refused (next_outside g passed starts (uncovered_fails _ _ g.n (rw cube_is at h))) (λ z. omega arith) cube_is
+          next_refused = refused (next_outside g passed starts (uncovered_fails _ _ g.n (rw cube_is at walked.within))) (λ z. omega arith) cube_is
 
-          module _ (all : g.n ≤ cube) where
-            follows : every g.n (next_covered (circuit_in g) (cubes_in g) g.n) ≡ true
-            follows = uncovered_passes _ _ g.n (rw cube_is at all)
+        -- each is in some
+        module _ {seen seen' : List ℕ} (walked : Walked g.counts g.table g.cubes g.n seen None seen') where
+          follows : every g.n (next_covered (circuit_in g) (cubes_in g) g.n) ≡ true
+          unfolding circuit_in cubes_in
+          follows = uncovered_passes _ _ g.n (omega (arith, walked.names))
 
-            pub verdict_refused : length g.verdict < bytes_for (verdicts g.counts) → Sent g (record { number = 10; cube = 0 }) g.verdict
-            unfolding circuit_in cubes_in
-            verdict_refused h = refused (verdict_short g passed starts follows h) (λ z. omega arith) refl
+          pub verdict_refused : length g.verdict < bytes_for (verdicts g.counts) → Sent g (record { number = 10; cube = 0 }) g.verdict
+          unfolding circuit_in cubes_in
+          verdict_refused h = refused (verdict_short g passed starts follows h) (λ z. omega arith) refl
 
-            -- ---- accepted
+          -- ---- accepted
 
-            whole : cube ≡ g.n
-            whole = cube_is ∙ sym (uncovered_none _ _ g.n (every_at g.n (next_covered (circuit_in g) (cubes_in g) g.n) follows))
+          pub seen_are : seen' ≡ over (pack (verdict_fields g)) seen
+          unfolding verdict_fields circuit_in cubes_in
+          seen_are = walked.judges refl
 
-            pub seen_are : seen' ≡ over (pack (verdict_fields g)) seen
-            unfolding verdict_fields circuit_in cubes_in
-            seen_are = walked.judges whole
+          packed : length (pack (verdict_fields g)) ≡ bytes_for (verdicts g.counts)
+          unfolding verdict_fields circuit_in
+          packed = rw (length_pack, verdict_sized g.counts g.table (cubes_in g) g.n)
 
-            packed : length (pack (verdict_fields g)) ≡ bytes_for (verdicts g.counts)
-            unfolding verdict_fields circuit_in
-            packed = rw (length_pack, verdict_sized g.counts g.table (cubes_in g) g.n)
-
-            pub accepted : {len : ℕ} {verdict : List ℕ} → len ≡ bytes_for (verdicts g.counts) → bytes_for (verdicts g.counts) ≤ length g.verdict → verdict ≡ paste g.verdict 0 seen' len
-                → Sent g (record { number = 0; cube = 0 }) verdict
-            unfolding circuit_in cubes_in over
-            accepted {len} e fits copied = record {
-              answers = sent_passes g passed starts follows fits;
-              names = refl;
-              fills_verdict =
-                  let front : take len seen' ≡ pack (verdict_fields g) = ap (take len) seen_are ∙ take_at (pack (verdict_fields g)) _ len (packed ∙ sym e) in
-                  let rest : 0 + len ≡ length (pack (verdict_fields g)) = omega (arith, packed) in
-                  copied ∙ ap₂ (λ (x : List ℕ) (m : ℕ). x ++ drop m g.verdict) front rest ∙ accepted_new 0 _ _ refl;
-            }
+          pub accepted : {len : ℕ} {front : List ℕ} → len ≡ bytes_for (verdicts g.counts) → bytes_for (verdicts g.counts) ≤ length g.verdict → front ≡ take len seen'
+              → Sent g (record { number = 0; cube = 0 }) (front ++ drop len g.verdict)
+          unfolding circuit_in cubes_in over
+          accepted {len} e fits copied = record {
+            answers = sent_passes g passed starts follows fits;
+            names = refl;
+            fills_verdict =
+                let whole = copied ∙ ap (take len) seen_are ∙ take_at (pack (verdict_fields g)) _ len (packed ∙ sym e) in
+                ap₂ (λ (x : List ℕ) (m : ℕ). x ++ drop m g.verdict) whole (e ∙ sym packed) ∙ accepted_new 0 _ _ refl;
+          }

@@ -2,6 +2,8 @@
 use mathlib.Core.Path.{◌≡◌, sym, ap, ◌∙◌}
 use mathlib.Core.Bool.{Bool, false}
 use mathlib.Core.List.{List}
+use Rattle.std.specs.Prelude.{Some, None}
+use Rattle.std.proofs.lemmas.Option.{none-some}
 use Prim.Native.Nat.{ℕ, ◌*◌, ◌<◌, ◌≤◌}
 use native.Mathlib.Nat.{zero-mul, not-suc-le-zero}
 use native.Mathlib.Omega.{arith}
@@ -35,9 +37,10 @@ module _ (c : Counts) (words : List ℕ) (n : ℕ) (cubes : List ℕ) {fields : 
   unfolding decode
   never none = rw (none, many, never_all (circuit_of c words) (cube_in c.latches cubes), verdicts_counted c words)
 
-  pub walked_nothing : n ≡ 0 → (entry : List ℕ) {verdict : List ℕ} → verdict ≡ over (pack (replicate fields (decode 1))) entry → Walked c words cubes n entry 0 verdict
+  pub walked_nothing : n ≡ 0 → (entry : List ℕ) {verdict : List ℕ} → verdict ≡ over (pack (replicate fields (decode 1))) entry → Walked c words cubes n entry None verdict
   walked_nothing none entry stored = record {
-    names = sym none ∙ uncovered_none _ _ n (λ m l. absurd (omega arith));
+    names = uncovered_none _ _ n (λ m l. absurd (omega arith));
+    within = tt;
     judges = λ z. stored ∙ ap (λ (v : Cube). over (pack v) entry) (never none);
   }
 
@@ -61,13 +64,13 @@ module _ (c : Counts) (words : List ℕ) (len n : ℕ) (cubes : List ℕ) where
     pub asked_first : {r : Bool} → r ≡ covered circuit (cube_in c.latches cubes) n (next_cube circuit (cube_of c.latches cubes)) → r ≡ covered_at 0
     asked_first e = asked 0 (rw zero-mul e)
 
-    pub walked_none : {r : Bool} → r ≡ covered_at 0 → r ≡ false → (entry : List ℕ) {verdict : List ℕ} → Walked c words cubes n entry 0 verdict
-    walked_none e f entry = record { names = uncovered_at _ _ n 0 j.some (λ m l. absurd (not-suc-le-zero l)) (sym e ∙ f); judges = λ z. absurd (omega (arith, j.some)) }
+    pub walked_none : {r : Bool} → r ≡ covered_at 0 → r ≡ false → (entry : List ℕ) {verdict : List ℕ} → Walked c words cubes n entry (Some 0) verdict
+    walked_none e f entry = record { names = uncovered_at _ _ n 0 j.some (λ m l. absurd (not-suc-le-zero l)) (sym e ∙ f); within = j.some; judges = λ z. absurd (none-some _ (sym z)) }
 
   module _ (entry : List ℕ) (fits : bytes_for (verdicts c) ≤ length entry) (begun : List ℕ) (first : begun ≡ over (pack (watched_in circuit (cube_of c.latches cubes))) entry)
       {verdict values seen : List ℕ} {k : ℕ} (p : Passing c words len n cubes covered_at begun verdict values seen k) where
-    pub walked_all : n ≤ k → Walked c words cubes n entry n verdict
-    walked_all h = record { names = uncovered_none _ _ n (all_passed c words len n cubes covered_at entry fits begun first p h); judges = λ z. all_judged c words len n cubes covered_at entry fits begun first p h }
+    pub walked_all : n ≤ k → Walked c words cubes n entry None verdict
+    walked_all h = record { names = uncovered_none _ _ n (all_passed c words len n cubes covered_at entry fits begun first p h); within = tt; judges = λ z. all_judged c words len n cubes covered_at entry fits begun first p h }
 
-    pub walked_part : k < n → {r : Bool} → r ≡ covered_at k → r ≡ false → {verdict' : List ℕ} → Walked c words cubes n entry k verdict'
-    walked_part h e f = record { names = uncovered_at _ _ n k h p.passed (sym e ∙ f); judges = λ z. absurd (omega arith) }
+    pub walked_part : k < n → {r : Bool} → r ≡ covered_at k → r ≡ false → {verdict' : List ℕ} → Walked c words cubes n entry (Some k) verdict'
+    walked_part h e f = record { names = uncovered_at _ _ n k h p.passed (sym e ∙ f); within = h; judges = λ z. absurd (none-some _ (sym z)) }

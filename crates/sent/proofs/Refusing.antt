@@ -1,29 +1,21 @@
 -- The refusals of a sent cover in order, and what holds where none is given. Assumes nothing.
 use mathlib.Core.Path.{◌≡◌}
 use mathlib.Core.Bool.{true, false}
-use mathlib.Core.List.{List}
 use Prim.Native.Nat.{ℕ, ◌<◌, ◌≤◌}
 use native.Mathlib.Omega.{arith}
 use borrow.Author.Tests.{le-leb, lt-leb}
 use lib.ListN.{length}
 use Rattle.three.specs.Lists.{every}
 use Rattle.three.specs.Record.{bytes_for}
-use Rattle.circuit.specs.declared.Counts.{Counts}
 use Rattle.circuit.specs.Refusal.{refusal}
 use Rattle.circuit.specs.Table.{verdicts}
 use Rattle.circuit.specs.RulesInCode.{Passed}
 use Rattle.circuit.proofs.Refusals.{Numbered, stops, past, none, passes, none_append}
 use Rattle.cubes.specs.Run.{start}
-use Rattle.cubes.specs.Buffer.{cube_bytes}
 use Rattle.cubes.specs.Given.{covered, next_covered, cover_tests}
 use Rattle.cubes.specs.GivenInCode.{given_tests}
-use Rattle.cubes.proofs.Given.{given_refuses as refuses_given, given_passes, past_given, behind_given}
-use Rattle.sent.specs.SentInCode.{Sendable}
+use Rattle.cubes.proofs.Given.{given_refuses as refuses_given, past_given, behind_given}
 use Rattle.sent.specs.Call.{SentGiven, circuit_in, cubes_in, verdict_tests, sent_tests}
-
--- what holds before the cubes are looked into
-pub sendable : (c : Counts) (table cubes : List ℕ) (n : ℕ) → 0 ≡ refusal (given_tests c table cubes n) → Sendable c table (cube_bytes c.latches) n cubes
-sendable c table cubes n ok = let are = given_passes c table cubes n ok in record { legal = are.0; stand = are.1 }
 
 module _ (g : SentGiven) where
   abbrev number : ℕ

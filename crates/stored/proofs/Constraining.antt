@@ -1,18 +1,21 @@
--- The constraints are read one after the other, and the first that is 0 decides; where there is none nothing is blocked. Assumes nothing.
+-- The constraints are read one after the other, and one that is 0 decides; where there is none nothing is blocked. Assumes nothing.
 use mathlib.Core.Path.{◌≡◌, refl, sym, ap, ◌∙◌}
-use mathlib.Core.Bool.{Bool, true, false, not, ◌||◌}
+use mathlib.Core.Bool.{Bool, true, false, ◌||◌}
 use mathlib.Core.List.{List}
-use Prim.Native.Nat.{ℕ, zero, suc, ◌+◌, ◌*◌, ◌<◌, ◌≤◌}
+use Prim.Native.Nat.{ℕ, zero, suc, ◌+◌, ◌-◌, ◌*◌, ◌<◌, ◌≤◌}
 use native.Mathlib.Nat.{one-mul}
 use native.Mathlib.Omega.{arith}
-use borrow.Author.Tests.{eq-eqb, ne_eqb, not-true}
-use lib.ListN.{length, get_or}
+use borrow.Author.Tests.{eq-eqb, ne_eqb}
+use lib.ListN.{length, get_or, take, drop}
+use Rattle.std.specs.Prelude.{MatchBool}
+use Rattle.std.proofs.lemmas.List.{get_or_read}
+use Rattle.std.specs.List.{AllWithin, HoldsAt}
 use Rattle.three.specs.Lists.{tabulate, over}
 use Rattle.three.specs.Value.{Three, low, code, ternary}
 use Rattle.three.specs.Cube.{Cube, alike}
 use Rattle.three.specs.Record.{bytes_for, pack, unpack}
 use Rattle.three.specs.RecordInCode.{IsRecord}
-use Rattle.three.proofs.Loops.{Tried, tried_next}
+use Rattle.three.proofs.Loops.{range_length, range_at}
 use Rattle.three.proofs.Pack.{unpack_over}
 use Rattle.three.proofs.Soundness.{record_over}
 use Rattle.circuit.specs.declared.Counts.{Counts}
@@ -43,41 +46,44 @@ unfolding some_low tabulate
 low_none zero f none = refl
 low_none (suc n) f none = rw (none 0 (omega arith)) (low_none n (λ k. f (suc k)) (λ i h. none (suc i) (omega arith)))
 
--- ---- the loop: i of those from word `at` on are not 0
+-- ---- their words, one after the other: from what a search of them found
 
-pub not_low : List Three → List ℕ → ℕ → ℕ → Bool
-not_low values words at i = not (alike (value ternary values (get_or words (at + i) 0)) low)
+-- what the code asks of a word
+abbrev pub is_low : List Three → ℕ → Type 0
+is_low values x = code (value ternary values x) ≡ 1
 
-module _ (values : List Three) (words : List ℕ) (at : ℕ) {count i : ℕ} (tried : Tried count (not_low values words at) i) where
-  pub low_next : {r : ℕ} → i < count → r ≡ code (value ternary values (get_or words (at + i) 0)) → (r ≡ 1 → ⊥) → Tried count (not_low values words at) (i + 1)
-  unfolding not_low alike code
-  low_next h read e = tried_next count (not_low values words at) tried h refl (ap not (ne_eqb _ 1 (λ z. e (read ∙ z))))
+module _ (words : List ℕ) (c : Counts) (legal : Legal c words) {first : ℕ} (place : first ≡ constraints_at c) where
+  abbrev read : List ℕ
+  read = take (first + c.constraints - first) (drop first words)
 
-  -- the code has the word's number in a local
-  module _ (c : Counts) (place : at ≡ constraints_at c) (all : count ≡ c.constraints) where
-    constraint : ℕ → Three
-    constraint k = value ternary values (get_or words (constraints_at c + 1 * k) 0)
+  fits : first + c.constraints ≤ length words
+  fits = omega (arith, place, legal.long)
 
-    constraint_at : (k : ℕ) → value ternary values (get_or words (at + k) 0) ≡ constraint k
-    unfolding constraint
-    constraint_at k = rw one-mul (ap (λ (p : ℕ). value ternary values (get_or words (p + k) 0)) place)
+  many : length read ≡ c.constraints
+  many = range_length first c.constraints words fits
 
-    pub low_found : {r : ℕ} → i < count → r ≡ code (value ternary values (get_or words (at + i) 0)) → r ≡ 1 → true ≡ some_low (literal_values values words (constraints_at c) 1 c.constraints)
-    unfolding literal_values constraint alike code
-    low_found h read e = sym (low_at c.constraints constraint i (rw all at h) (eq-eqb _ 1 (sym (read ∙ ap code (constraint_at i)) ∙ e)))
+  word_at : (k : ℕ) → k < c.constraints → get_or words (constraints_at c + 1 * k) 0 ≡ get_or read k 0
+  word_at k h = sym (range_at first c.constraints words fits k 0 h ∙ rw one-mul (ap (λ (p : ℕ). get_or words (p + k) 0) place))
 
-    pub low_missing : count ≤ i → false ≡ some_low (literal_values values words (constraints_at c) 1 c.constraints)
-    unfolding literal_values constraint not_low
-    low_missing h = sym (low_none c.constraints constraint (λ k l. ap (λ (v : Three). alike v low) (sym (constraint_at k)) ∙ not-true _ (tried.held k (omega arith))))
+  -- its word is a literal
+  pub constraint_word : {x : ℕ} (k : ℕ) → k < length read → x ≡ get_or read k x → x < 8192
+  constraint_word {x} k h e =
+      let below : k < c.constraints = omega (arith, many) in
+      let small = (literals_readable c words legal (constraints_at c) c.constraints (omega arith) (omega arith)).small k below in
+      rw (word_at k below ∙ sym (get_or_read read k x h e 0)) at small
 
--- ---- their words, none at all, and cube 0
+  pub any_low : (values : List Three) (r : Bool) → MatchBool r ((k : ℕ) × (k < length read) × HoldsAt (is_low values) read k) (AllWithin (λ x. is_low values x → ⊥) read 0 (length read))
+      → r ≡ some_low (literal_values values words (constraints_at c) 1 c.constraints)
+  unfolding literal_values alike code
+  any_low values true (k, l, h) =
+      let below : k < c.constraints = omega (arith, many) in
+      sym (low_at c.constraints _ k below (eq-eqb _ 1 (ap (λ (x : ℕ). code (value ternary values x)) (word_at k below) ∙ h 0)))
+  any_low values false h =
+      sym (low_none c.constraints _ (λ k l. ne_eqb _ 1 (λ z. h k 0 (omega arith) (omega (arith, many)) (ap (λ (x : ℕ). code (value ternary values x)) (sym (word_at k l)) ∙ z))))
+
+-- ---- none at all, and cube 0
 
 module _ (c : Counts) (words : List ℕ) where
-  pub constraint_word : Legal c words → {first i : ℕ} → first ≡ constraints_at c → i < c.constraints → get_or words (first + i) 0 < 8192
-  constraint_word legal {first} {i} place h =
-      let small = (literals_readable c words legal (constraints_at c) c.constraints (omega arith) (omega arith)).small i h in
-      rw place (rw one-mul at small)
-
   pub free_of : c.constraints ≡ 0 → (a : Cube) → false ≡ blocked (circuit_of c words) a
   free_of none a = sym (never_blocked (circuit_of c words) (none_counted c words none) a)
 

@@ -1,8 +1,10 @@
 -- Cubes that are given, byte by byte: what the search finds among them is what the definition finds. Assumes nothing.
 use mathlib.Core.Path.{◌≡◌, sym, ap, ◌∙◌}
-use mathlib.Core.Bool.{Bool, true}
+use mathlib.Core.Bool.{Bool, true, false, false≢true}
 use mathlib.Core.List.{List}
+use Rattle.std.specs.Prelude.{Option, None, Some, is_some}
 use Prim.Native.Nat.{ℕ, ◌+◌, ◌*◌, ◌<◌, ◌≤◌}
+use native.Mathlib.Omega.{arith}
 use lib.ListN.{length, get_or, drop}
 use lib.Seq.{get_or-drop}
 use Rattle.three.specs.Lists.{first}
@@ -19,8 +21,18 @@ use Rattle.cubes.proofs.Raised.{Marked, given_bytes}
 use Rattle.cubes.proofs.Marks.{sought_mark, cube_covers}
 use Rattle.cubes.proofs.Held.{Bytes}
 use Rattle.cubes.proofs.First.{search_first}
-use Rattle.stored.specs.CubesInCode.{raised_bytes, covers_from}
+use Rattle.stored.specs.CubesInCode.{raised_bytes, covers_from, FoundFirst}
 use Rattle.stored.proofs.Raising.{raised_bytes_lem}
+
+-- ---- what a search answers
+
+found_below : {n j : ℕ} (o : Option ℕ) → FoundFirst n j o → is_some o ≡ true → j < n
+found_below (Some k) e h = omega (arith, e)
+found_below None e h = absurd (false≢true h)
+
+found_beyond : {n j : ℕ} (o : Option ℕ) → FoundFirst n j o → is_some o ≡ false → n ≤ j
+found_beyond (Some k) e h = absurd (false≢true (sym h))
+found_beyond None e h = e
 
 -- the cube at byte `at`
 module _ (latches len : ℕ) (size : len ≡ cube_bytes latches) (cubes : List ℕ) (small : (i : ℕ) → get_or cubes i 0 < 256) (at : ℕ) (cube : IsCube latches (drop at cubes)) where
@@ -41,17 +53,20 @@ module _ (latches len n : ℕ) (cubes : List ℕ) (are : Cubes latches len n cub
         covers_at latches len are.size cubes small (k * len) (are.cube k h) b v sized is ∙ ap (λ (a : Cube). subsumes a v) (cube_at_lem latches are.size cubes k)
 
     -- and the search is the definition's: what it finds is covered, and where it finds nothing a constraint decides
-    module _ (c : Circuit) {j : ℕ} (e : j ≡ first n (λ k. covers_from len cubes (raised_bytes len 3 b) (k * len))) where
-      same : j ≡ first n (λ k. subsumes (cube_in latches cubes k) v)
-      same = e ∙ first_ext n _ (λ k. subsumes (cube_in latches cubes k) v) given_covers
+    abbrev sought : ℕ
+    sought = first n (λ k. covers_from len cubes (raised_bytes len 3 b) (k * len))
 
-      decides : Found → Bool
-      decides f = elim f [ at k ↦ true | nowhere ↦ blocked c v ]
+    same : sought ≡ first n (λ k. subsumes (cube_in latches cubes k) v)
+    same = first_ext n _ (λ k. subsumes (cube_in latches cubes k) v) given_covers
 
-      pub found_inside : j < n → true ≡ covered c (cube_in latches cubes) n v
+    decides : Circuit → Found → Bool
+    decides c f = elim f [ at k ↦ true | nowhere ↦ blocked c v ]
+
+    module _ (c : Circuit) (o : Option ℕ) (e : FoundFirst n sought o) where
+      pub found_inside : is_some o ≡ true → true ≡ covered c (cube_in latches cubes) n v
       unfolding covered decides
-      found_inside h = sym (ap decides ((search_first (cube_in latches cubes) v n).0 (rw same at h)))
+      found_inside h = let below = found_below o e h in sym (ap (decides c) ((search_first (cube_in latches cubes) v n).0 (rw same at below)))
 
-      pub found_nowhere : n ≤ j → {r : Bool} → r ≡ blocked c v → r ≡ covered c (cube_in latches cubes) n v
+      pub found_nowhere : is_some o ≡ false → {r : Bool} → r ≡ blocked c v → r ≡ covered c (cube_in latches cubes) n v
       unfolding covered decides
-      found_nowhere h is = is ∙ sym (ap decides ((search_first (cube_in latches cubes) v n).1 (rw same at h)))
+      found_nowhere h is = let beyond = found_beyond o e h in is ∙ sym (ap (decides c) ((search_first (cube_in latches cubes) v n).1 (rw same at beyond)))

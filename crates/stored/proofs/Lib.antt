@@ -1,8 +1,10 @@
+pub mod Filled
 pub mod Starting
 pub mod Raising
 pub mod Lowering
 pub mod Keeping
 pub mod Searching
+pub mod Bytewise
 pub mod Reaching
 pub mod Judged
 pub mod Inside

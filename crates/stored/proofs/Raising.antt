@@ -2,9 +2,11 @@
 use mathlib.Core.Path.{◌≡◌, sym, ap, ap₂, ◌∙◌}
 use mathlib.Core.Bool.{Bool}
 use mathlib.Core.List.{List, ◌∷◌}
-use Prim.Native.Nat.{ℕ, zero, suc, ◌+◌, ◌*◌, ◌<◌, ◌≤◌}
+use Rattle.std.specs.Prelude.{Option}
+use Prim.Native.Nat.{ℕ, zero, suc, ◌+◌, ◌-◌, ◌*◌, ◌<◌, ◌≤◌}
 use native.Mathlib.Numerals.{add-one}
 use native.Mathlib.Omega.{arith}
+use borrow.Rule.Slice.PartMut.{put_mid}
 use lib.Bits.{bit_and}
 use lib.Dec.{eqb}
 use lib.ListN.{length, get_or, set, take, get_or-append}
@@ -13,13 +15,14 @@ use Rattle.three.specs.Lists.{first}
 use Rattle.three.specs.Value.{code, known}
 use Rattle.three.specs.Cube.{Cube}
 use Rattle.three.proofs.First.{first_ext}
-use Rattle.three.proofs.Loops.{Stored, stored_first, stored_next}
+use Rattle.three.proofs.Loops.{Stored, stored_first}
 use Rattle.three.proofs.Lists.{length_tabulate, get_or_tabulate, every_ext}
 use Rattle.cubes.specs.Buffer.{cube_bytes, pack_cube}
 use Rattle.cubes.specs.BufferInCode.{raised_byte, marked_byte}
 use Rattle.cubes.proofs.Raised.{Marked, bytes_packed}
 use Rattle.cubes.proofs.Held.{Bytes}
-use Rattle.stored.specs.CubesInCode.{raised_bytes, covers_from}
+use Rattle.stored.specs.CubesInCode.{raised_bytes, covers_from, FoundFirst}
+use Rattle.stored.proofs.Filled.{filled_next, filled_last}
 
 -- a list pasted at the front
 pub front_byte : (d s : List ℕ) (n i : ℕ) → i < n → n ≤ length s → get_or (paste d 0 s n) i 0 ≡ get_or s i 0
@@ -32,23 +35,26 @@ module _ (len mark : ℕ) (latches : List ℕ) where
 
   -- ---- the loop: what stands above the next byte is known too
 
-  module _ (out₀ : List ℕ) (at : ℕ) where
+  module _ (d : List ℕ) where
     pub record Raised (out : List ℕ) (i above : ℕ) : Type 0 where
-      pub stored : Stored out₀ at (raised_bytes len mark latches) len out i
+      pub stored : Stored d 0 (raised_bytes len mark latches) len out i
       pub known : above ≡ get_or (mark ∷ latches) i 0
 
-    pub raised_first : {above : ℕ} → above ≡ mark → Raised out₀ 0 above
+    pub raised_first : {above : ℕ} → above ≡ mark → Raised d 0 above
     raised_first e = record { stored = stored_first _ _ _ _; known = e }
 
-    pub raised_next : at + len ≤ length out₀ → (out : List ℕ) (i above byte k : ℕ) → Raised out i above → i < len → byte ≡ get_or latches i 0 → k ≡ raised_byte above byte
-        → Raised (set out (at + i) k) (i + 1) byte
-    unfolding raised_bytes
-    raised_next room out i above byte k r h eb ek = record {
-      stored =
-          stored_next out₀ at (raised_bytes len mark latches) len room (omega (arith, length_raised)) out i k 0 r.stored h
-          (ek ∙ ap₂ raised_byte r.known eb ∙ sym (get_or_tabulate len _ i 0 h));
-      known = eb ∙ ap (λ (n : ℕ). get_or (mark ∷ latches) n 0) (sym (add-one i));
-    }
+    module _ (long : length d ≡ len) {out : List ℕ} {i above : ℕ} (r : Raised out i above) where
+      pub raised_next : {k : ℕ} → i < length d → k ≡ raised_byte above (get_or latches i 0) → Raised (set out i k) (i + 1) (get_or latches i 0)
+      unfolding raised_bytes
+      raised_next h e = record {
+        stored =
+            filled_next long (omega (arith, length_raised)) r.stored h
+            (e ∙ ap (λ (x : ℕ). raised_byte x (get_or latches i 0)) r.known ∙ sym (get_or_tabulate len _ i 0 (omega (arith, long))));
+        known = ap (λ (n : ℕ). get_or (mark ∷ latches) n 0) (sym (add-one i));
+      }
+
+      pub raised_last : (t : List ℕ) (at : ℕ) → length d ≤ i → put_mid at (at + len - at) t out ≡ paste t at (raised_bytes len mark latches) len
+      raised_last t at h = filled_last long (omega (arith, length_raised)) r.stored t at (omega (arith, length_raised)) h
 
   -- ---- a record of these latches
 
@@ -72,5 +78,5 @@ module _ (len : ℕ) (cubes d s : List ℕ) (b : List ℕ) (e : b ≡ paste d 0 
   unfolding covers_from
   covers_front at = every_ext len _ _ (λ i h. ap (λ (y : ℕ). eqb (bit_and (get_or cubes (at + i) 0) y) (get_or cubes (at + i) 0)) (ap (λ (x : List ℕ). get_or x i 0) e ∙ front_byte d s len i h l))
 
-  pub first_front : (n : ℕ) → first n (λ k. covers_from len cubes b (k * len)) ≡ first n (λ k. covers_from len cubes s (k * len))
-  first_front n = first_ext n _ _ (λ k h. covers_front (k * len))
+  pub found_front : (n : ℕ) (o : Option ℕ) → FoundFirst n (first n (λ k. covers_from len cubes b (k * len))) o → FoundFirst n (first n (λ k. covers_from len cubes s (k * len))) o
+  found_front n o found = rw (first_ext n (λ k. covers_from len cubes b (k * len)) (λ k. covers_from len cubes s (k * len)) (λ k h. covers_front (k * len))) at found

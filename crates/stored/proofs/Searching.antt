@@ -2,6 +2,7 @@
 use mathlib.Core.Path.{◌≡◌, refl, sym, ap}
 use mathlib.Core.Bool.{Bool, false}
 use mathlib.Core.List.{List}
+use Rattle.std.specs.Prelude.{None, Some}
 use Prim.Native.Nat.{ℕ, ◌+◌, ◌*◌, ◌<◌, ◌≤◌}
 use native.Mathlib.Nat.{mul-le-mul_right, suc-mul, zero-mul, not-suc-le-zero}
 use native.Mathlib.Numerals.{add-one}
@@ -15,7 +16,7 @@ use Rattle.three.specs.Lists.{first}
 use Rattle.three.proofs.First.{first_at, first_none}
 use Rattle.three.proofs.Lists.{every_all, every_fails}
 use Rattle.three.proofs.Loops.{Tried, tried_first, tried_next}
-use Rattle.stored.specs.CubesInCode.{covers_from}
+use Rattle.stored.specs.CubesInCode.{covers_from, FoundFirst}
 
 module _ (cubes b : List ℕ) (len n : ℕ) where
   -- byte i of the record at `at` has no bit that b's has not
@@ -59,11 +60,11 @@ module _ (cubes b : List ℕ) (len n : ℕ) where
           none = below_more _ k o.none (rw (← o.place) (every_fails len (inside at) i h (ne_eqb _ _ e)));
         }
 
-    pub found : (k at i : ℕ) → Inner k at i → len ≤ i → k ≡ first n covering
+    pub found : (k at i : ℕ) → Inner k at i → len ≤ i → FoundFirst n (first n covering) (Some k)
     unfolding covers_from
     found k at i v h =
         let o = v.outer in
-        sym (first_at n covering k v.more (rw (← o.place) (every_all len (inside at) (λ m l. v.tried.held m (omega arith)))) o.none)
+        (sym (first_at n covering k v.more (rw (← o.place) (every_all len (inside at) (λ m l. v.tried.held m (omega arith)))) o.none), v.more)
 
-    pub missing : (k at : ℕ) → Outer k at → k ≡ n → n ≡ first n covering
-    missing k at o h = sym (first_none n covering (λ m l. o.none m (omega arith)))
+    pub missing : (k at : ℕ) → Outer k at → k ≡ n → FoundFirst n (first n covering) None
+    missing k at o h = omega (arith, first_none n covering (λ m l. o.none m (omega arith)))

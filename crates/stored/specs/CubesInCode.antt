@@ -1,5 +1,5 @@
 -- How the code keeps cubes one after the other in a buffer; nothing here has to be believed. Assumes nothing.
-use Rattle.std.specs.Prelude.{Bool, List, ◌∷◌, ℕ, ◌+◌, ◌*◌, eqb, get_or, replicate}
+use Rattle.std.specs.Prelude.{◌≡◌, Bool, Option, None, Some, List, ◌∷◌, ℕ, ◌+◌, ◌*◌, ◌<◌, ◌≤◌, eqb, get_or, replicate}
 use Rattle.std.specs.Int.Bits.{bit_and}
 use Rattle.three.specs.Lists.{tabulate, every}
 use Rattle.three.specs.Value.{unknown, low, ternary}
@@ -27,6 +27,11 @@ kept_bytes len held b = tabulate len (λ i. kept_byte (get_or b i 0) (get_or hel
 -- the stored record at byte `at` covers b: no bit of its bytes is missing in b's
 unfoldable pub covers_from : ℕ → List ℕ → List ℕ → ℕ → Bool
 covers_from len cubes b at = every len (λ i. eqb (bit_and (get_or cubes (at + i) 0) (get_or b i 0)) (get_or cubes (at + i) 0))
+
+-- what a search among n answers, j being the first number that passes, n where none does
+abbrev pub FoundFirst : ℕ → ℕ → Option ℕ → Type 0
+FoundFirst n j None = n ≤ j
+FoundFirst n j (Some k) = (k ≡ j) × (k < n)
 
 -- a working table with the constant and all switches X
 abbrev pub SwitchesX : Counts → List ℕ → Type 0

@@ -6,19 +6,20 @@ ghost use Rattle.std.proofs.Math.Seq.{paste};
 ghost use Rattle.three.specs.Lists.{every, first, over};
 ghost use Rattle.three.specs.Value.{unknown, code};
 ghost use Rattle.three.specs.Record.{bytes_for, byte_at, pack, unpack};
-ghost use Rattle.three.specs.RecordInCode.{known_table, IsRecord};
+ghost use Rattle.three.specs.RecordInCode.{IsRecord};
 ghost use Rattle.circuit.specs.Refusal.{refusal};
+ghost use Rattle.circuit.specs.Answer.{answered};
 ghost use Rattle.circuit.specs.Table.{constraints_at, circuit_of};
-ghost use Rattle.circuit.specs.RulesInCode.{Bounded, Legal};
-ghost use Rattle.pass.specs.ValuesInCode.{values_of, Working, literal_values};
-ghost use Rattle.cubes.specs.Run.{next_cube, some_low, blocked as is_blocked, start as start_of};
+ghost use Rattle.circuit.specs.RulesInCode.{Bounded};
+ghost use Rattle.pass.specs.ValuesInCode.{values_of, literal_values};
+ghost use Rattle.cubes.specs.Run.{next_cube, some_low, blocked as is_blocked, start_field, start as start_of};
 ghost use Rattle.cubes.specs.Buffer.{cube_bytes, cube_of, sound_cube, sound_in};
 ghost use Rattle.cubes.specs.BufferInCode.{longest_cube, IsCube, raised_byte, lowered_byte};
 ghost use Rattle.cubes.specs.HeldInCode.{kept_byte};
 ghost use Rattle.cubes.specs.Given.{cube_tests};
-ghost use Rattle.stored.specs.CubesInCode.{start_fields, raised_bytes, kept_bytes, covers_from, SwitchesX, Settled};
+ghost use Rattle.stored.specs.CubesInCode.{start_fields, raised_bytes, kept_bytes, covers_from, FoundFirst, SwitchesX, Settled};
 
-use circuit::Counts;
+use circuit::{Board, Counts, Refusal};
 use pass::Values;
 
 // The record of a cube with the most latches: 512, and its mark.
@@ -32,34 +33,16 @@ pub fn cube_bytes(latches: usize) -> usize
     three::record_length(latches + 1)
 }
 
-// Field number i of cube 0; a field beyond the latches is X.
-fn start_field(table: &[u16], count: usize, i: usize) -> u8
-    requires { (2 * count ≤ length table.now) × (count ≤ 512) }
-    ensures { result ≡ code (get_or (start_fields table.now count) i unknown) }
+// Field number i of cube 0.
+fn start_field(table: &[u16], i: usize) -> u8
+    requires { 2 * i + 1 < length table.now }
+    ensures { result ≡ code (start_field (get_or table.now (2 * i + 1) 0)) }
 {
-    if i >= count {
-        return 0;
+    match table[2 * i + 1] {
+        0 => 1,
+        1 => 2,
+        _ => 0,
     }
-    let reset = table[2 * i + 1];
-    if reset == 0 {
-        return 1;
-    }
-    if reset == 1 {
-        return 2;
-    }
-    0
-}
-
-fn start_byte(table: &[u16], count: usize, k: usize) -> u8
-    requires { (2 * count ≤ length table.now) × (count ≤ 512) × (k < 4096) }
-    ensures { result ≡ byte_at (start_fields table.now count) k }
-{
-    let i = 4 * k;
-    let a = start_field(table, count, i);
-    let b = start_field(table, count, i + 1);
-    let c = start_field(table, count, i + 2);
-    let d = start_field(table, count, i + 3);
-    three::byte_of(a, b, c, d)
 }
 
 // Cube 0 is the resets: its latches, as a record.
@@ -67,9 +50,7 @@ pub fn store_start(table: &[u16], count: usize, out: &mut [u8])
     requires { (2 * count ≤ length table.now) × (count ≤ 512) × (bytes_for count ≤ length out.old) }
     ensures { out.new ≡ over (pack (start_fields table.now count)) out.old }
 {
-    for k in 0..three::record_length(count) {
-        out[k] = start_byte(table, count, k);
-    }
+    three::store_fields(count, |i| start_field(table, i), out);
 }
 
 // A byte of fields that are moved up by one: the last field of the byte above comes in.
@@ -85,10 +66,9 @@ pub fn store_cube(mark: u8, latches: &[u8], len: usize, out: &mut [u8], at: usiz
     ensures { out.new ≡ paste out.old at (raised_bytes len mark latches.now) len }
 {
     let mut above = mark;
-    for i in 0..len {
-        let byte = latches[i];
-        out[at + i] = raised(above, byte);
-        above = byte;
+    for (i, byte) in out[at..at + len].iter_mut().enumerate() {
+        *byte = raised(above, latches[i]);
+        above = latches[i];
     }
 }
 
@@ -127,8 +107,8 @@ pub fn store_latches(latches: usize, cubes: &[u8], at: usize, out: &mut [u8])
     ensures { out.new ≡ over (pack (cube_of latches (drop at cubes.now))) out.old }
 {
     let len = cube_bytes(latches);
-    for k in 0..three::record_length(latches) {
-        out[k] = latch_byte(latches, cubes, at, len, k);
+    for (k, byte) in out[..three::record_length(latches)].iter_mut().enumerate() {
+        *byte = latch_byte(latches, cubes, at, len, k);
     }
 }
 
@@ -144,20 +124,20 @@ pub fn store_kept(b: &[u8], held: &[u8], len: usize, out: &mut [u8])
     requires { (len ≤ length held.now) × (len ≤ length b.now) × (len ≤ length out.old) }
     ensures { out.new ≡ paste out.old 0 (kept_bytes len held.now b.now) len }
 {
-    for i in 0..len {
-        out[i] = kept(b[i], held[i]);
+    for (i, byte) in out[..len].iter_mut().enumerate() {
+        *byte = kept(b[i], held[i]);
     }
 }
 
 // 14 does not refuse the cube at byte `at`: its mark is not 00, and its record is sound.
-fn cube_sound(known: &[u8; 256], cubes: &[u8], at: usize, latches: usize) -> bool
-    requires { (known.now ≡ known_table) × (latches ≤ 512) × (at + cube_bytes latches ≤ length cubes.now) }
+fn cube_sound(cubes: &[u8], at: usize, latches: usize) -> bool
+    requires { (latches ≤ 512) × (at + cube_bytes latches ≤ length cubes.now) }
     ensures { result ≡ sound_cube latches (drop at cubes.now) }
 {
     if cubes[at] < 64 {
         return false;
     }
-    three::sound(known, &cubes[at..], latches + 1)
+    three::sound(&cubes[at..], latches + 1)
 }
 
 // 14 refuses none of the first n cubes.
@@ -166,108 +146,99 @@ fn cubes_sound(latches: usize, cubes: &[u8], n: usize) -> bool
     ensures { result ≡ every n (sound_in latches cubes.now) }
 {
     let len = cube_bytes(latches);
-    let known = three::known_table();
     for k in 0..n {
-        if !cube_sound(&known, cubes, k * len, latches) {
+        if !cube_sound(cubes, k * len, latches) {
             return false;
         }
     }
     true
 }
 
-// The refusals of n cubes that are given, in order: 10, 14; 0 for none.
-pub fn cubes_refusal(counts: Counts, cubes: &[u8], n: usize) -> u32
+// The refusals of n cubes that are given, in order: 10, 14.
+pub fn cubes_refusal(counts: Counts, cubes: &[u8], n: usize) -> Result<(), Refusal>
     requires { Bounded counts }
-    ensures { result ≡ refusal (cube_tests counts cubes.now n) }
+    ensures { answered result ≡ refusal (cube_tests counts cubes.now n) }
 {
     if n > cubes.len() / cube_bytes(counts.latches) {
-        return 10;
+        return Err(Refusal::TooShort);
     }
     if !cubes_sound(counts.latches, cubes, n) {
-        return 14;
+        return Err(Refusal::Unsound);
     }
-    0
+    Ok(())
 }
 
 // One pass over the cube at byte `at`, with all switches X.
-pub fn settle_cube(counts: Counts, table: &[u16], cubes: &[u8], at: usize, values: &mut Values)
-    requires { Legal counts table.now × (at ≤ length cubes.now) × IsCube counts.latches (drop at cubes.now) × SwitchesX counts values.old }
-    ensures { Settled counts table.now (cube_of counts.latches (drop at cubes.now)) values.new }
+pub fn settle_cube(board: &Board<'_>, cubes: &[u8], at: usize, values: &mut Values)
+    requires { (at ≤ length cubes.now) × IsCube board.now.counts.latches (drop at cubes.now) × SwitchesX board.now.counts values.old.bytes }
+    ensures { Settled board.now.counts board.now.table.now (cube_of board.now.counts.latches (drop at cubes.now)) values.new.bytes }
 {
     let mut state = [0u8; LONGEST_CUBE];
-    store_latches(counts.latches, cubes, at, &mut state);
-    pass::settle_state(counts, table, &state, values);
+    store_latches(board.counts.latches, cubes, at, &mut state);
+    pass::settle_state(board, &state, values);
 }
 
 // Some constraint is 0 in the values that a pass left.
-fn constraint_low(counts: Counts, table: &[u16], values: &Values) -> bool
-    requires { Legal counts table.now × Working values.now }
-    ensures { result ≡ some_low (literal_values (values_of values.now) table.now (constraints_at counts) 1 counts.constraints) }
+fn constraint_low(board: &Board<'_>, values: &Values) -> bool
+    ensures { result ≡ some_low (literal_values (values_of values.now.bytes) board.now.table.now (constraints_at board.now.counts) 1 board.now.counts.constraints) }
 {
-    let first = circuit::constraints_at(counts);
-    let signs = pass::sign_table();
-    for i in 0..counts.constraints {
-        if pass::literal(&signs, values, table[first + i]) == 1 {
-            return true;
-        }
-    }
-    false
+    let first = board.counts.constraints_at();
+    let words = &board.table[first..first + board.counts.constraints];
+    words.iter().any(|&word| pass::literal(values, word) == 1)
 }
 
 // Some constraint is 0 in a cube whose latches are given as a record, with all switches X; where there is none no pass is made.
-pub fn blocked(counts: Counts, table: &[u16], latches: &[u8], values: &mut Values) -> bool
-    requires { Legal counts table.now × IsRecord counts.latches latches.now × SwitchesX counts values.old }
-    ensures { (result ≡ is_blocked (circuit_of counts table.now) (unpack counts.latches latches.now)) × SwitchesX counts values.new }
+pub fn blocked(board: &Board<'_>, latches: &[u8], values: &mut Values) -> bool
+    requires { IsRecord board.now.counts.latches latches.now × SwitchesX board.now.counts values.old.bytes }
+    ensures { (result ≡ is_blocked (circuit_of board.now.counts board.now.table.now) (unpack board.now.counts.latches latches.now)) × SwitchesX board.now.counts values.new.bytes }
 {
-    if counts.constraints == 0 {
+    if board.counts.constraints == 0 {
         return false;
     }
-    pass::settle_state(counts, table, latches, values);
-    constraint_low(counts, table, values)
+    pass::settle_state(board, latches, values);
+    constraint_low(board, values)
 }
 
 // Some constraint is 0 in cube 0.
-pub fn start_blocked(counts: Counts, table: &[u16]) -> bool
-    requires { Legal counts table.now }
-    ensures { result ≡ is_blocked (circuit_of counts table.now) (start_of (circuit_of counts table.now)) }
+pub fn start_blocked(board: &Board<'_>) -> bool
+    ensures { result ≡ is_blocked (circuit_of board.now.counts board.now.table.now) (start_of (circuit_of board.now.counts board.now.table.now)) }
 {
-    if counts.constraints == 0 {
+    if board.counts.constraints == 0 {
         return false;
     }
     let mut start = [0u8; LONGEST_CUBE];
-    store_start(table, counts.latches, &mut start);
-    let mut values = pass::fresh_values();
-    blocked(counts, table, &start, &mut values)
+    store_start(board.table, board.counts.latches, &mut start);
+    let mut values = Values::fresh();
+    blocked(board, &start, &mut values)
 }
 
 // The run's b after a cube: the next state of its latches, which are given as a record, with held latches set to X.
 pub fn reach(
-    counts: Counts,
-    table: &[u16],
+    board: &Board<'_>,
     last: &[u8],
     held: &[u8],
     values: &mut Values,
     b: &mut [u8; LONGEST_CUBE],
 )
-    requires { Legal counts table.now × IsRecord counts.latches last.now × (cube_bytes counts.latches ≤ length held.now) × SwitchesX counts values.old × (length b.old ≡ longest_cube) }
-    ensures { SwitchesX counts values.new × (b.new ≡ paste b.old 0 (kept_bytes (cube_bytes counts.latches) held.now (pack (next_cube (circuit_of counts table.now) (unpack counts.latches last.now)))) (cube_bytes counts.latches)) }
+    requires { IsRecord board.now.counts.latches last.now × (cube_bytes board.now.counts.latches ≤ length held.now) × SwitchesX board.now.counts values.old.bytes × (length b.old ≡ longest_cube) }
+    ensures { SwitchesX board.now.counts values.new.bytes × (b.new ≡ paste b.old 0 (kept_bytes (cube_bytes board.now.counts.latches) held.now (pack (next_cube (circuit_of board.now.counts board.now.table.now) (unpack board.now.counts.latches last.now)))) (cube_bytes board.now.counts.latches)) }
 {
-    pass::settle_state(counts, table, last, values);
+    pass::settle_state(board, last, values);
     let mut next = [0u8; LONGEST_CUBE];
-    pass::store(values, table, 0, 2, counts.latches, &mut next);
-    store_kept(&next, held, cube_bytes(counts.latches), b);
+    pass::store(values, board.table, 0, 2, board.counts.latches, &mut next);
+    store_kept(&next, held, cube_bytes(board.counts.latches), b);
 }
 
-// The search is for the first stored cube that covers b: its number, or n where none of the n does.
-fn search(cubes: &[u8], len: usize, n: usize, b: &[u8]) -> usize
+// The search is for the first stored cube that covers b: its number, where one of the n does.
+fn search(cubes: &[u8], len: usize, n: usize, b: &[u8]) -> Option<usize>
     requires { (n * len ≤ length cubes.now) × (len ≤ length b.now) }
-    ensures { result ≡ first n (λ k. covers_from len cubes.now b.now (k * len)) }
+    ensures { FoundFirst n (first n (λ k. covers_from len cubes.now b.now (k * len))) result }
 {
     let mut k = 0;
     let mut at = 0;
-    let j = 'stored: loop {
+    'stored: loop {
         if k == n {
-            break n;
+            break None;
         }
         let mut i = 0;
         while i < len {
@@ -280,9 +251,8 @@ fn search(cubes: &[u8], len: usize, n: usize, b: &[u8]) -> usize
             }
             i += 1;
         }
-        break k;
-    };
-    j
+        break Some(k);
+    }
 }
 
 // No bit of the cube at byte `at` is missing in b.
@@ -290,22 +260,16 @@ pub fn covers(cubes: &[u8], at: usize, len: usize, b: &[u8]) -> bool
     requires { (at + len ≤ length cubes.now) × (len ≤ length b.now) }
     ensures { result ≡ covers_from len cubes.now b.now at }
 {
-    for i in 0..len {
-        let c = cubes[at + i];
-        if c & b[i] != c {
-            return false;
-        }
-    }
-    true
+    cubes[at..at + len].iter().zip(b).all(|(c, d)| c & d == *c)
 }
 
 // In the mark's place of what is looked for: 11 has the bits of any mark, so that marks are never compared.
 const ANY_MARK: u8 = 3;
 
-// The first of the n cubes that subsumes the latches given as a record, or n.
-pub fn find(cubes: &[u8], len: usize, n: usize, latches: &[u8]) -> usize
+// The first of the n cubes that subsumes the latches given as a record.
+pub fn find(cubes: &[u8], len: usize, n: usize, latches: &[u8]) -> Option<usize>
     requires { (n * len ≤ length cubes.now) × (len ≤ longest_cube) × (len ≤ length latches.now) }
-    ensures { result ≡ first n (λ k. covers_from len cubes.now (raised_bytes len 3 latches.now) (k * len)) }
+    ensures { FoundFirst n (first n (λ k. covers_from len cubes.now (raised_bytes len 3 latches.now) (k * len))) result }
 {
     let b = marked(ANY_MARK, latches, len);
     search(cubes, len, n, &b)

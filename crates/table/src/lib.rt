@@ -1,14 +1,16 @@
 // The refusals of a table of words: 3, 10 and 11 (specification, 3.5 to 3.7), and 16 for a run (5.8).
 #![tactic(auto)]
 
-ghost use Rattle.std.specs.Prelude.{◌≡◌, ◌+◌, ◌*◌, ◌<◌, ◌≤◌, length};
+ghost use Rattle.std.specs.Prelude.{◌≡◌, ◌+◌, ◌*◌, ◌<◌, ◌≤◌, length, IfOk};
 ghost use Rattle.three.specs.Lists.{every};
 ghost use Rattle.circuit.specs.Refusal.{all_hold, refusal};
+ghost use Rattle.circuit.specs.Answer.{answered};
 ghost use Rattle.circuit.specs.Table.{top, table_length, kinds, table_tests, ceiling_tests, word_tests, circuit_tests, board_tests};
 ghost use Rattle.circuit.specs.RulesInCode.{latch_kept, literal_kept, gate_kept, Bounded};
 
 use circuit::{
-    Counts, MOST_BADS, MOST_CONSTRAINTS, MOST_GATES, MOST_INPUTS, MOST_LAMPS, MOST_LATCHES,
+    Board, Counts, MOST_BADS, MOST_CONSTRAINTS, MOST_GATES, MOST_INPUTS, MOST_LAMPS, MOST_LATCHES,
+    Refusal,
 };
 
 fn latch_kept(table: &[u16], at: usize, most: u16) -> bool
@@ -37,8 +39,8 @@ fn literals_kept(table: &[u16], at: usize, count: usize, most: u16) -> bool
     requires { at + count ≤ length table.now }
     ensures { result ≡ every count (λ i. literal_kept most table.now (at + i)) }
 {
-    for i in 0..count {
-        if table[at + i] > most {
+    for &word in &table[at..at + count] {
+        if word > most {
             return false;
         }
     }
@@ -70,95 +72,94 @@ fn gates_kept(table: &[u16], at: usize, count: usize, own: usize) -> bool
     true
 }
 
-// It takes 2 × L + O + B + C + 2 × A words.
-pub fn table_length(counts: Counts) -> usize
-    requires { Bounded counts }
-    ensures { result ≡ table_length counts }
-{
-    circuit::gates_at(counts) + 2 * counts.gates
-}
-
 // The table keeps rules 6, 7 and 8.
 fn rules_kept(counts: Counts, table: &[u16]) -> bool
     requires { Bounded counts × (table_length counts ≤ length table.now) }
     ensures { result ≡ all_hold (table_tests (top counts) (kinds counts) table.now) }
 {
-    let most = (2 * (counts.inputs + counts.latches + counts.gates) + 1) as u16;
-    let own = 2 * (1 + counts.inputs + counts.latches);
+    let most = counts.top() as u16;
+    let own = counts.first_gate();
     if !latches_kept(table, counts.latches, most) {
         return false;
     }
-    if !literals_kept(
-        table,
-        circuit::literals_at(counts),
-        circuit::literals(counts),
-        most,
-    ) {
+    if !literals_kept(table, counts.literals_at(), counts.literals(), most) {
         return false;
     }
-    gates_kept(table, circuit::gates_at(counts), counts.gates, own)
+    gates_kept(table, counts.gates_at(), counts.gates, own)
 }
 
-// 3 for counts over a ceiling; 0 for none.
-pub fn ceiling_refusal(counts: Counts) -> u32
-    ensures { result ≡ refusal (ceiling_tests counts) }
+// 3: a count over its ceiling.
+pub fn ceiling_refusal(counts: Counts) -> Result<(), Refusal>
+    ensures { answered result ≡ refusal (ceiling_tests counts) }
 {
     if counts.inputs > MOST_INPUTS {
-        return 3;
+        return Err(Refusal::OverCeiling);
     }
     if counts.latches > MOST_LATCHES {
-        return 3;
+        return Err(Refusal::OverCeiling);
     }
     if counts.lamps > MOST_LAMPS {
-        return 3;
+        return Err(Refusal::OverCeiling);
     }
     if counts.gates > MOST_GATES {
-        return 3;
+        return Err(Refusal::OverCeiling);
     }
     if counts.bads > MOST_BADS {
-        return 3;
+        return Err(Refusal::OverCeiling);
     }
     if counts.constraints > MOST_CONSTRAINTS {
-        return 3;
+        return Err(Refusal::OverCeiling);
     }
-    0
+    Ok(())
 }
 
-// The refusals of a table's words, in order: 10 for the table, 11; 0 for none.
-fn word_refusal(counts: Counts, table: &[u16]) -> u32
+// The refusals of a table's words, in order: 10 for the table, 11.
+fn word_refusal(counts: Counts, table: &[u16]) -> Result<(), Refusal>
     requires { Bounded counts }
-    ensures { result ≡ refusal (word_tests counts table.now) }
+    ensures { answered result ≡ refusal (word_tests counts table.now) }
 {
-    if table.len() < table_length(counts) {
-        return 10;
+    if table.len() < counts.table_length() {
+        return Err(Refusal::TooShort);
     }
     if !rules_kept(counts, table) {
-        return 11;
+        return Err(Refusal::BrokenTable);
     }
-    0
+    Ok(())
 }
 
-// The refusals of a circuit that is written, or read for a tick, in order; 0 for none.
-pub fn circuit_refusal(counts: Counts, table: &[u16]) -> u32
-    ensures { result ≡ refusal (circuit_tests counts table.now) }
+// The refusals of a circuit that is written, or read for a tick, in order.
+pub fn circuit_refusal(counts: Counts, table: &[u16]) -> Result<(), Refusal>
+    ensures { answered result ≡ refusal (circuit_tests counts table.now) }
 {
-    let refused = ceiling_refusal(counts);
-    if refused != 0 {
-        return refused;
+    ceiling_refusal(counts)?;
+    word_refusal(counts, table)
+}
+
+// The refusals of a circuit that is run, in order.
+pub fn board_refusal(counts: Counts, table: &[u16]) -> Result<(), Refusal>
+    ensures { answered result ≡ refusal (board_tests counts table.now) }
+{
+    ceiling_refusal(counts)?;
+    if counts.verdicts() == 0 {
+        return Err(Refusal::NothingToJudge);
     }
     word_refusal(counts, table)
 }
 
-// The refusals of a circuit that is run, in order; 0 for none.
-pub fn board_refusal(counts: Counts, table: &[u16]) -> u32
-    ensures { result ≡ refusal (board_tests counts table.now) }
+// A circuit that is written, or read for a tick, where nothing refuses it.
+pub fn legal_circuit(counts: Counts, table: &[u16]) -> Result<Board<'_>, Refusal>
+    ensures number { answered result ≡ refusal (circuit_tests counts table.now) }
+    ensures same { IfOk result (λ b. (b.counts ≡ counts) × (b.table.now ≡ table.now)) }
 {
-    let refused = ceiling_refusal(counts);
-    if refused != 0 {
-        return refused;
-    }
-    if circuit::verdicts(counts) == 0 {
-        return 16;
-    }
-    word_refusal(counts, table)
+    circuit_refusal(counts, table)?;
+    Ok(Board { counts, table })
+}
+
+// A circuit that is run, where nothing refuses it.
+pub fn legal_board(counts: Counts, table: &[u16]) -> Result<Board<'_>, Refusal>
+    ensures number { answered result ≡ refusal (board_tests counts table.now) }
+    ensures same { IfOk result (λ b. (b.counts ≡ counts) × (b.table.now ≡ table.now)) }
+{
+    board_refusal(counts, table)?;
+    Ok(Board { counts, table })
 }

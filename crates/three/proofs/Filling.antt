@@ -4,7 +4,7 @@ use mathlib.Core.List.{List}
 use Prim.Native.Nat.{ℕ, ◌+◌, ◌*◌, ◌<◌, ◌≤◌}
 use native.Mathlib.Nat.{zero-add}
 use native.Mathlib.Omega.{arith}
-use lib.ListN.{length, get_or, set}
+use lib.ListN.{length, get_or, set, get_or-eq_default}
 use Rattle.three.specs.Lists.{over}
 use Rattle.three.specs.Value.{Three, unknown, code, decode}
 use Rattle.three.specs.Cube.{Cube}
@@ -25,6 +25,11 @@ pub over_fields : {out : List ℕ} (buffer : List ℕ) {fields fields' : Cube} �
 over_fields buffer e f = e ∙ ap (λ (x : Cube). over (pack x) buffer) f
 
 module _ (fields : Cube) where
+  -- a field beyond them is X
+  pub field_beyond : (i : ℕ) → length fields ≤ i → 0 ≡ code (get_or fields i unknown)
+  unfolding code
+  field_beyond i h = ap code (sym (get_or-eq_default fields unknown h))
+
   -- four fields make a byte
   pub four_fields : (k : ℕ) {a b c d r : ℕ}
       → a ≡ code (get_or fields (4 * k) unknown)

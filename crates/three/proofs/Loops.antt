@@ -7,7 +7,8 @@ use native.Mathlib.Nat.{not-suc-le-zero, zero-add}
 use native.Mathlib.Numerals.{add-one}
 use native.Mathlib.Omega.{arith}
 use borrow.Author.Count.{below_more}
-use lib.ListN.{length, get_or, set, length-set}
+use lib.ListN.{length, get_or, set, take, drop, length-set}
+use Rattle.std.proofs.lemmas.List.{get_or-take, length-take, length-take-le, length-drop}
 use lib.Seq.{paste, paste-zero, paste-suc, drop-paste, get_or-drop, take-length}
 use Rattle.three.specs.Lists.{every, over}
 use Rattle.three.proofs.Lists.{every_fails, every_all}
@@ -62,3 +63,20 @@ module _ (n : ℕ) (p : ℕ → Bool) where
 
   pub tried_all : {i : ℕ} → Tried i → n ≤ i → true ≡ every n p
   tried_all t h = sym (every_all n p (λ k l. t.held k (omega (arith, t.within))))
+
+-- ---- a loop over the first n elements of a list
+
+module _ {A : Type 0} (n : ℕ) (l : List A) (fits : n ≤ length l) where
+  pub front_length : length (take n l) ≡ n
+  front_length = length-take-le n l fits
+
+  pub front_at : (i : ℕ) (d : A) → i < length (take n l) → get_or (take n l) i d ≡ get_or l i d
+  front_at i d h = get_or-take n l i d (omega (arith, front_length))
+
+-- the same for the n elements from number a on
+module _ {A : Type 0} (a n : ℕ) (l : List A) (fits : a + n ≤ length l) where
+  pub range_length : length (take (a + n - a) (drop a l)) ≡ n
+  range_length = length-take (a + n - a) (drop a l) ∙ omega (arith, length-drop a l)
+
+  pub range_at : (i : ℕ) (d : A) → i < n → get_or (take (a + n - a) (drop a l)) i d ≡ get_or l (a + i) d
+  range_at i d h = get_or-take (a + n - a) (drop a l) i d (omega arith) ∙ get_or-drop a l i d

@@ -3,3 +3,4 @@ pub mod Value
 pub mod Cube
 pub mod Record
 pub mod RecordInCode
+pub mod GivenInCode

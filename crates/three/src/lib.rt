@@ -1,34 +1,27 @@
 // Values 0, 1 and X, and records of two-bit fields (specification, 2). A value is its two bits: 0 unknown, 1 low, 2 high.
 #![tactic(auto)]
 
-ghost use Rattle.std.specs.Prelude.{◌≡◌, ◌*◌, ◌<◌, ◌≤◌, length, set};
+ghost use Rattle.std.specs.Prelude.{◌≡◌, ◌*◌, ◌<◌, ◌≤◌, length, get_or, set};
 ghost use Rattle.three.specs.Lists.{over};
-ghost use Rattle.three.specs.Value.{code, decode, both};
-ghost use Rattle.three.specs.RecordInCode.{gate_table};
-ghost use Rattle.three.specs.Cube.{merged, known_fields};
-ghost use Rattle.three.specs.Record.{bytes_for, byte_of, pack, pairs, pair_at, unpack, sound as sound_record};
+ghost use Rattle.three.specs.Value.{unknown, code, decode, both};
+ghost use Rattle.three.specs.Cube.{Cube, merged, known_fields};
+ghost use Rattle.three.specs.Record.{bytes_for, byte_of, byte_at, pack, pairs, pair_at, unpack, sound as sound_record};
 ghost use Rattle.three.specs.RecordInCode.{judged};
-ghost use Rattle.three.specs.RecordInCode.{known_table, IsRecord};
+ghost use Rattle.three.specs.RecordInCode.{IsRecord};
+ghost use Rattle.three.specs.GivenInCode.{Gives, GivenBy};
 
 // 0 with anything is 0, 1 with 1 is 1, the rest X
-const AND: [[u8; 3]; 3] = [[0, 1, 0], [1, 1, 1], [0, 1, 2]];
+static AND: [[u8; 3]; 3] = [[0, 1, 0], [1, 1, 1], [0, 1, 2]];
 
-// Every mention of a constant table makes it anew: a pass makes this one once, and lends it to each gate.
-pub fn gate_table() -> [[u8; 3]; 3]
-    ensures { result ≡ gate_table }
-{
-    AND
-}
-
-pub fn and3(answers: &[[u8; 3]; 3], a: u8, b: u8) -> u8
-    requires { (answers.now ≡ gate_table) × (a < 3) × (b < 3) }
+pub fn and3(a: u8, b: u8) -> u8
+    requires { (a < 3) × (b < 3) }
     ensures { result ≡ code (both (decode a) (decode b)) }
 {
-    answers[a as usize][b as usize]
+    AND[a as usize][b as usize]
 }
 
 // The count of its known fields, or 255 where some pair is 11.
-const KNOWN: [u8; 256] = [
+static KNOWN: [u8; 256] = [
     0, // 0x00
     1, 1, 255, 1, 2, 2, 255, 1, 2, 2, 255, 255, 255, 255, 255, 1, // 0x10
     2, 2, 255, 2, 3, 3, 255, 2, 3, 3, 255, 255, 255, 255, 255, 1, // 0x20
@@ -50,18 +43,10 @@ const KNOWN: [u8; 256] = [
 
 const BAD: u8 = 255;
 
-// As the gate table, made once and lent to each byte that is judged.
-pub fn known_table() -> [u8; 256]
-    ensures { result ≡ known_table }
-{
-    KNOWN
-}
-
-fn known(counts: &[u8; 256], byte: u8) -> u8
-    requires { counts.now ≡ known_table }
+fn known(byte: u8) -> u8
     ensures { result ≡ judged byte }
 {
-    counts[byte as usize]
+    KNOWN[byte as usize]
 }
 
 // A record of f fields takes f / 4 bytes rounded up, and at least one.
@@ -75,13 +60,13 @@ pub fn record_length(fields: usize) -> usize
 }
 
 // A given record has no pair 11 and no leftover bit set.
-pub fn sound(counts: &[u8; 256], bytes: &[u8], fields: usize) -> bool
-    requires { (counts.now ≡ known_table) × (fields ≤ 4096) × (bytes_for fields ≤ length bytes.now) }
+pub fn sound(bytes: &[u8], fields: usize) -> bool
+    requires { (fields ≤ 4096) × (bytes_for fields ≤ length bytes.now) }
     ensures { result ≡ sound_record fields bytes.now }
 {
     let len = record_length(fields);
-    for k in 0..len {
-        if known(counts, bytes[k]) == BAD {
+    for &byte in &bytes[..len] {
+        if known(byte) == BAD {
             return false;
         }
     }
@@ -115,15 +100,49 @@ pub fn byte_of(a: u8, b: u8, c: u8, d: u8) -> u8
     64 * a + 16 * b + 4 * c + d
 }
 
+// Field number i of those that a function gives; a field beyond them is X.
+fn given_field<F: Fn(usize) -> u8>(field: &F, count: usize, i: usize) -> u8
+    requires { Gives (F.pre field.now) (F.post field.now) count }
+    ensures small { result < 3 }
+    ensures same { (fields : Cube) → GivenBy (F.post field.now) count fields → result ≡ code (get_or fields i unknown) }
+{
+    if i >= count {
+        return 0;
+    }
+    field(i)
+}
+
+// Byte number k of the record of those fields.
+fn given_byte<F: Fn(usize) -> u8>(field: &F, count: usize, k: usize) -> u8
+    requires { Gives (F.pre field.now) (F.post field.now) count × (k < 4096) }
+    ensures { (fields : Cube) → GivenBy (F.post field.now) count fields → result ≡ byte_at fields k }
+{
+    let i = 4 * k;
+    let a = given_field(field, count, i);
+    let b = given_field(field, count, i + 1);
+    let c = given_field(field, count, i + 2);
+    let d = given_field(field, count, i + 3);
+    byte_of(a, b, c, d)
+}
+
+// That record, into the front of `out`.
+pub fn store_fields<F: Fn(usize) -> u8>(count: usize, field: F, out: &mut [u8])
+    requires { Gives (F.pre field) (F.post field) count × (count ≤ 4096) × (bytes_for count ≤ length out.old) }
+    ensures { (fields : Cube) → GivenBy (F.post field) count fields → out.new ≡ over (pack fields) out.old }
+{
+    for k in 0..record_length(count) {
+        out[k] = given_byte(&field, count, k);
+    }
+}
+
 // How many fields of a record are known.
 pub fn known_fields(bytes: &[u8], fields: usize) -> usize
     requires { (fields ≤ 4096) × IsRecord fields bytes.now }
     ensures { result ≡ known_fields (unpack fields bytes.now) }
 {
-    let counts = known_table();
     let mut count: usize = 0;
-    for k in 0..record_length(fields) {
-        count += known(&counts, bytes[k]) as usize;
+    for &byte in &bytes[..record_length(fields)] {
+        count += known(byte) as usize;
     }
     count
 }

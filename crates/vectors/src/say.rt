@@ -1,90 +1,75 @@
 // The lines of answers: numbers, and the elements of a buffer with equal ones that follow each other as value*count.
-ghost use Rattle.std.specs.Prelude.{◌≤◌, ◌<◌, length};
-
+use crate::room::Element;
+use circuit::{Counts, Refusal};
 use std::io::Stdout;
 
 pub fn say(output: Stdout, text: &[u8]) {
     let _ = output.write_all(text);
 }
 
-// A name, and the number behind it.
-pub fn say_number(output: Stdout, name: &[u8], number: usize) {
-    say(output, name);
-    let _ = output.print(number);
+// What stands beside a refusal.
+const NO_COUNTS: Counts = Counts {
+    inputs: 0,
+    latches: 0,
+    lamps: 0,
+    gates: 0,
+    bads: 0,
+    constraints: 0,
+};
+
+// Where the line of an answer goes, and the name of its call.
+#[derive(Clone, Copy)]
+pub struct Answer<'a> {
+    pub output: Stdout,
+    pub name: &'a [u8],
 }
 
-fn say_times(output: Stdout, times: usize) {
-    if times > 1 {
-        say_number(output, b"*", times);
+impl Answer<'_> {
+    // The call's name, and the number that it answered.
+    pub fn opens(self, number: u32) {
+        say(self.output, self.name);
+        self.number("number", number as usize);
     }
-}
 
-// A buffer of length 0 has no element to show.
-fn say_none(output: Stdout, length: usize) {
-    if length == 0 {
-        say(output, b" -");
+    // The same by its refusal.
+    pub fn refused(self, refusal: Option<Refusal>) {
+        self.opens(refusal.map_or(0, Refusal::number));
     }
-}
 
-// Where the equal bytes from a position on end.
-fn bytes_alike(bytes: &[u8], at: usize) -> usize
-    requires { at < length bytes.now }
-    ensures { (at < result) × (result ≤ length bytes.now) }
-{
-    let first = bytes[at];
-    let mut end = at + 1;
-    while end < bytes.len() && bytes[end] == first {
-        end += 1;
+    pub fn number(self, name: &str, number: usize) {
+        let _ = print!(self.output; " {name} {number}");
     }
-    end
-}
 
-fn say_byte(output: Stdout, byte: u8, times: usize) {
-    say(output, b" ");
-    let _ = print!(output; "{byte:02x}");
-    say_times(output, times);
-}
-
-pub fn say_bytes(output: Stdout, name: &[u8], bytes: &[u8]) {
-    say(output, name);
-    say_none(output, bytes.len());
-    let mut at = 0;
-    while at < bytes.len() {
-        let end = bytes_alike(bytes, at);
-        say_byte(output, bytes[at], end - at);
-        at = end;
+    pub fn counts(self, counts: Option<Counts>) {
+        let counts = counts.unwrap_or(NO_COUNTS);
+        self.number("I", counts.inputs);
+        self.number("L", counts.latches);
+        self.number("O", counts.lamps);
+        self.number("A", counts.gates);
+        self.number("B", counts.bads);
+        self.number("C", counts.constraints);
     }
-}
 
-fn wide_word(word: u16) -> usize {
-    word as usize
-}
-
-// Where the equal words from a position on end.
-fn words_alike(words: &[u16], at: usize) -> usize
-    requires { at < length words.now }
-    ensures { (at < result) × (result ≤ length words.now) }
-{
-    let first = words[at];
-    let mut end = at + 1;
-    while end < words.len() && words[end] == first {
-        end += 1;
+    // A buffer of length 0 has no element to show.
+    pub fn elements<T: Element>(self, name: &str, elements: &[T]) {
+        let _ = print!(self.output; "; {name}");
+        if elements.is_empty() {
+            say(self.output, b" -");
+        }
+        for run in elements.chunk_by(|a, b| a == b) {
+            self.run(run[0], run.len());
+        }
     }
-    end
-}
 
-fn say_word(output: Stdout, word: u16, times: usize) {
-    say_number(output, b" ", wide_word(word));
-    say_times(output, times);
-}
+    fn run<T: Element>(self, element: T, times: usize) {
+        say(self.output, b" ");
+        element.say(self.output);
+        if times > 1 {
+            let _ = print!(self.output; "*{times}");
+        }
+    }
 
-pub fn say_words(output: Stdout, name: &[u8], words: &[u16]) {
-    say(output, name);
-    say_none(output, words.len());
-    let mut at = 0;
-    while at < words.len() {
-        let end = words_alike(words, at);
-        say_word(output, words[at], end - at);
-        at = end;
+    pub fn ends(self) {
+        say(self.output, b"\n");
     }
 }

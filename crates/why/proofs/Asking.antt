@@ -1,11 +1,10 @@
 -- What may be asked, by the gate rule: the operand that a gate at 0 is followed to is 0, those of a gate at 1 are 1, and all are below the gate's own literal. Assumes nothing.
 use mathlib.Core.Path.{◌≡◌, sym, ap, ◌∙◌}
-use mathlib.Core.Bool.{Bool, true, false, not, ◌&&◌}
+use mathlib.Core.Bool.{Bool, true, false, not}
 use mathlib.Core.List.{List, [], ◌∷◌}
 use Prim.Native.Nat.{ℕ, suc, ◌+◌, ◌*◌, ◌-◌, ◌/◌, ◌%◌, ◌<◌, ◌≤◌}
-use native.Mathlib.Nat.{add-zero}
 use native.Mathlib.Omega.{arith}
-use borrow.Author.Tests.{ne_eqb, leb-true, leb-false}
+use borrow.Author.Tests.{leb-true, leb-false}
 use lib.Dec.{leb}
 use lib.ListN.{length, get_or}
 use Rattle.three.specs.Value.{Three, unknown, low, high, both, ternary}
@@ -67,8 +66,8 @@ module _ (words : List ℕ) (at first : ℕ) (values : List ℕ) (x : ℕ) where
       left_below = omega (arith, k.gates.left (x / 2 - first) (omega arith))
 
       -- as the code reads it
-      pub left_small : {l : ℕ} → l ≡ get_or words (at + 2 * (x / 2 - first) + 0) 0 → l < 8192
-      left_small e = let same : left ≡ get_or words (at + 2 * (x / 2 - first) + 0) 0 = rw add-zero in omega (arith, left_below, askable_small a k)
+      pub left_small : {l : ℕ} → l ≡ left → l < 8192
+      left_small e = omega (arith, left_below, askable_small a k)
 
       pub right_below : right < x
       right_below = omega (arith, k.gates.right (x / 2 - first) (omega arith))
@@ -81,15 +80,12 @@ module _ (words : List ℕ) (at first : ℕ) (values : List ℕ) (x : ℕ) where
       first_is_not t = low_right first (gate_in words at) (values_of values) (x / 2) gate (entry low k) t
 
       -- the same of what the code reads and tests
-      module _ {l : ℕ} {t : Bool} (read : l ≡ get_or words (at + 2 * (x / 2 - first) + 0) 0) (test : t ≡ alike (value ternary (values_of values) l) low) where
-        is_left : l ≡ left
-        is_left = rw (← add-zero (at + 2 * (x / 2 - first))) read
-
+      module _ {l : ℕ} {t : Bool} (read : l ≡ left) (test : t ≡ alike (value ternary (values_of values) l) low) where
         pub first_taken : t ≡ true → followed_in words at first values (x / 2) ≡ l ∷ []
-        first_taken e = first_is_low (ap (λ r. alike (value ternary (values_of values) r) low) (sym is_left) ∙ sym test ∙ e) ∙ ap (λ r. r ∷ []) (sym is_left)
+        first_taken e = first_is_low (ap (λ r. alike (value ternary (values_of values) r) low) (sym read) ∙ sym test ∙ e) ∙ ap (λ r. r ∷ []) (sym read)
 
         pub second_taken : t ≡ false → {r : ℕ} → r ≡ right → followed_in words at first values (x / 2) ≡ r ∷ []
-        second_taken e same = first_is_not (ap (λ r. alike (value ternary (values_of values) r) low) (sym is_left) ∙ sym test ∙ e) ∙ ap (λ r. r ∷ []) (sym same)
+        second_taken e same = first_is_not (ap (λ r. alike (value ternary (values_of values) r) low) (sym read) ∙ sym test ∙ e) ∙ ap (λ r. r ∷ []) (sym same)
 
       -- the operand that a gate at 0 is followed to
       pub cause_asked : (r : ℕ) → followed_in words at first values (x / 2) ≡ r ∷ [] → (r < x) × Askable words at first values r low
@@ -119,7 +115,7 @@ module _ (words : List ℕ) (at first : ℕ) (values : List ℕ) (x : ℕ) (k : 
 
 -- ---- marking
 
-module _ (first v : ℕ) (marks marks' : List ℕ) (h : v < length marks) where
+module _ (first v : ℕ) (marks marks' : List Bool) (h : v < length marks) where
   module _ {r : Bool} (b : Begun first v marks marks' r) where
     pub begun_marks : Marks (marked marks) (marked marks') v
     begun_marks = rw b.sets (set_marks marks v h)
@@ -135,14 +131,5 @@ module _ (first v : ℕ) (marks marks' : List ℕ) (h : v < length marks) where
         (λ t. ends_none follows c begun_marks (none (leb-false first v (rw t at (sym b.answers ∙ f)))))
 
     -- whatever is marked besides: a variable that was begun is not followed again
-    pub never_twice : (later later' : List ℕ) {r' : Bool} → ((u : ℕ) → marked marks' u ≡ true → marked later u ≡ true) → Begun first v later later' r' → r' ≡ false
+    pub never_twice : (later later' : List Bool) {r' : Bool} → ((u : ℕ) → marked marks' u ≡ true → marked later u ≡ true) → Begun first v later later' r' → r' ≡ false
     never_twice later later' kept b' = b'.answers ∙ rw (kept v begun_marks.has)
-
-module _ (first v : ℕ) (marks : List ℕ) where
-  pub marked_before : get_or marks v 0 ≡ 1 → false ≡ (not (marked marks v) && leb first v)
-  unfolding marked
-  marked_before e = rw e
-
-  pub marked_now : (get_or marks v 0 ≡ 1 → ⊥) → leb first v ≡ (not (marked marks v) && leb first v)
-  unfolding marked
-  marked_now d = rw (ne_eqb (get_or marks v 0) 1 d)

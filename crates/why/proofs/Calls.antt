@@ -3,7 +3,6 @@ use mathlib.Core.Path.{◌≡◌, sym, ap, ◌∙◌}
 use mathlib.Core.Bool.{Bool, true, false, not}
 use mathlib.Core.List.{List, [], ◌∷◌}
 use Prim.Native.Nat.{ℕ, suc, ◌+◌, ◌*◌, ◌-◌, ◌/◌, ◌%◌, ◌<◌, ◌≤◌}
-use native.Mathlib.Nat.{add-zero}
 use native.Mathlib.Omega.{arith}
 use borrow.Author.Tests.{not-true, not-false}
 use lib.ListN.{length, get_or, length-set}
@@ -22,7 +21,7 @@ module _ (words : List ℕ) (at first : ℕ) (values : List ℕ) (x : ℕ) where
 
   -- ---- an inverted literal
 
-  module _ (odd : x % 2 ≡ 1) (marks : List ℕ) (ready : Ready follows (x / 2) marks) where
+  module _ (odd : x % 2 ≡ 1) (marks : List Bool) (ready : Ready follows (x / 2) marks) where
     turned_ready : Ready follows ((x - 1) / 2) marks
     turned_ready = record { long = ready.long; closed = closed_below follows (suc ((x - 1) / 2)) (omega arith) ready.closed }
 
@@ -32,12 +31,12 @@ module _ (words : List ℕ) (at first : ℕ) (values : List ℕ) (x : ℕ) where
     pub high_turned : Askable words at first values x high → Askable words at first values (x - 1) low × Ready follows ((x - 1) / 2) marks
     high_turned k = (turned_high words at first values x odd k, turned_ready)
 
-    pub turned_left : {marks' : List ℕ} → FollowedMarks follows marks marks' ((x - 1) / 2) → FollowedMarks follows marks marks' (x / 2)
+    pub turned_left : {marks' : List Bool} → FollowedMarks follows marks marks' ((x - 1) / 2) → FollowedMarks follows marks marks' (x / 2)
     turned_left f = rw (← upright x odd) f
 
   -- ---- a variable is marked
 
-  module _ (a : Three) (k : Askable words at first values x a) (marks marks' : List ℕ) (ready : Ready follows (x / 2) marks)
+  module _ (a : Three) (k : Askable words at first values x a) (marks marks' : List Bool) (ready : Ready follows (x / 2) marks)
       {r : Bool} (b : Begun first (x / 2) marks marks' r) where
     within : x / 2 < length marks
     within = omega (arith, askable_small words at first values x a k, ready.long)
@@ -67,7 +66,7 @@ module _ (words : List ℕ) (at first : ℕ) (values : List ℕ) (x : ℕ) where
         below_ready : Ready follows (y / 2) marks'
         below_ready = record { long = still_long; closed = closed_below follows (suc (y / 2)) (omega arith) (marks_closed follows marking ready.closed) }
 
-        again_ready : (z : ℕ) → z < x → (marks₂ : List ℕ) → FollowedMarks follows marks' marks₂ (z / 2) → Ready follows (y / 2) marks₂
+        again_ready : (z : ℕ) → z < x → (marks₂ : List Bool) → FollowedMarks follows marks' marks₂ (z / 2) → Ready follows (y / 2) marks₂
         again_ready z h marks₂ f = record {
           long = f.long;
           closed = closed_below follows (suc (y / 2)) (omega arith) (call_closed follows (omega arith) (marks_closed follows marking ready.closed) f.followed_from);
@@ -76,7 +75,7 @@ module _ (words : List ℕ) (at first : ℕ) (values : List ℕ) (x : ℕ) where
 -- ---- a gate at 0
 
 module _ (words : List ℕ) (at first : ℕ) (values : List ℕ) (x : ℕ) (k : Askable words at first values x low)
-    (marks marks' : List ℕ) (ready : Ready (followed_in words at first values) (x / 2) marks)
+    (marks marks' : List Bool) (ready : Ready (followed_in words at first values) (x / 2) marks)
     {t : Bool} (b : Begun first (x / 2) marks marks' t) (g : not t ≡ false) (even : x % 2 ≡ 0)
     (r : ℕ) (e : followed_in words at first values (x / 2) ≡ r ∷ []) where
   pub cause_call : (r < x) × (Askable words at first values r low × Ready (followed_in words at first values) (r / 2) marks')
@@ -84,7 +83,7 @@ module _ (words : List ℕ) (at first : ℕ) (values : List ℕ) (x : ℕ) (k : 
       let asked = cause_asked words at first values x even (is_gate words at first values x low k marks marks' ready b g) k r e in
       (asked.0, (asked.1, below_ready words at first values x low k marks marks' ready b g even r asked.0))
 
-  pub cause_left : {marks₂ : List ℕ} → FollowedMarks (followed_in words at first values) marks' marks₂ (r / 2) → FollowedMarks (followed_in words at first values) marks marks₂ (x / 2)
+  pub cause_left : {marks₂ : List Bool} → FollowedMarks (followed_in words at first values) marks' marks₂ (r / 2) → FollowedMarks (followed_in words at first values) marks marks₂ (x / 2)
   cause_left f = record {
     long = f.long;
     followed_from = ends_one (followed_in words at first values) ready.closed (marking words at first values x low k marks marks' ready b g) r e (omega (arith, cause_call.0)) f.followed_from;
@@ -93,27 +92,27 @@ module _ (words : List ℕ) (at first : ℕ) (values : List ℕ) (x : ℕ) (k : 
 -- ---- a gate at 1, its operands as the code reads them
 
 module _ (words : List ℕ) (at first : ℕ) (values : List ℕ) (x : ℕ) (k : Askable words at first values x high)
-    (marks marks' : List ℕ) (ready : Ready (followed_in words at first values) (x / 2) marks)
+    (marks marks' : List Bool) (ready : Ready (followed_in words at first values) (x / 2) marks)
     {t : Bool} (b : Begun first (x / 2) marks marks' t) (g : not t ≡ false) (even : x % 2 ≡ 0)
-    (l : ℕ) (read : l ≡ get_or words (at + 2 * (x / 2 - first) + 0) 0) where
+    (l : ℕ) (read : l ≡ get_or words (at + 2 * (x / 2 - first)) 0) where
   gate : first ≤ x / 2
   gate = is_gate words at first values x high k marks marks' ready b g
 
   is_left : get_or words (at + 2 * (x / 2 - first)) 0 ≡ l
-  is_left = rw (← add-zero (at + 2 * (x / 2 - first))) (sym read)
+  is_left = sym read
 
   pub left_call : (l < x) × (Askable words at first values l high × Ready (followed_in words at first values) (l / 2) marks')
   left_call =
       let below : l < x = rw (← is_left) (left_below words at first values x even gate high k) in
       (below, (rw (← is_left) (left_asked words at first values x even gate k), below_ready words at first values x high k marks marks' ready b g even l below))
 
-  module _ (marks₂ : List ℕ) (f : FollowedMarks (followed_in words at first values) marks' marks₂ (l / 2)) (r : ℕ) (read' : r ≡ get_or words (at + 2 * (x / 2 - first) + 1) 0) where
+  module _ (marks₂ : List Bool) (f : FollowedMarks (followed_in words at first values) marks' marks₂ (l / 2)) (r : ℕ) (read' : r ≡ get_or words (at + 2 * (x / 2 - first) + 1) 0) where
     pub right_call : (r < x) × (Askable words at first values r high × Ready (followed_in words at first values) (r / 2) marks₂)
     right_call =
         let below : r < x = rw read' (right_below words at first values x even gate high k) in
         (below, (rw read' (right_asked words at first values x even gate k), again_ready words at first values x high k marks marks' ready b g even r below l left_call.0 marks₂ f))
 
-    pub both_left : {marks₃ : List ℕ} → FollowedMarks (followed_in words at first values) marks₂ marks₃ (r / 2) → FollowedMarks (followed_in words at first values) marks marks₃ (x / 2)
+    pub both_left : {marks₃ : List Bool} → FollowedMarks (followed_in words at first values) marks₂ marks₃ (r / 2) → FollowedMarks (followed_in words at first values) marks marks₃ (x / 2)
     both_left f' =
         let two : followed_in words at first values (x / 2) ≡ l ∷ r ∷ [] =
         both_followed words at first values x even gate k ∙ ap (λ n. n ∷ get_or words (at + 2 * (x / 2 - first) + 1) 0 ∷ []) is_left ∙ ap (λ n. l ∷ n ∷ []) (sym read') in

@@ -4,7 +4,6 @@ use mathlib.Core.Bool.{Bool, false, not, false≢true}
 use mathlib.Core.List.{List, ◌++◌}
 use Prim.Native.Nat.{ℕ, zero, suc, ◌+◌, ◌*◌, ◌/◌, ◌%◌, ◌<◌, ◌≤◌}
 use native.Mathlib.Omega.{arith}
-use lib.Dec.{eqb}
 use lib.ListN.{length, get_or, take, replicate, length-replicate}
 use Rattle.three.specs.Lists.{tabulate}
 use Rattle.three.specs.Value.{Three, unknown, low, both, decode, ternary}
@@ -18,7 +17,7 @@ use Rattle.circuit.specs.Table.{top, gates_at, circuit_of}
 use Rattle.circuit.specs.RulesInCode.{Legal}
 use Rattle.circuit.proofs.LiteralValue.{value_even}
 use Rattle.pass.specs.ValuesInCode.{values_of, fresh_values, Holding, Begins}
-use Rattle.pass.proofs.Values.{fresh_begins}
+use Rattle.pass.proofs.WorkingTable.{fresh_begins}
 use Rattle.pass.proofs.Settling.{switches_settle, legal_gates, value_begins}
 use Rattle.cubes.specs.Run.{switches_unknown}
 use Rattle.asked.specs.Follow.{followed, gate_at, values_in, forces, forcing}
@@ -38,14 +37,14 @@ unknown_begins c words t t' state h fresh b =
     switches_settle c words (replicate c.inputs unknown) state (length-replicate c.inputs unknown) t t' (fresh_begins t c.inputs (omega arith) fresh) b
 
 -- no mark is set in new marks
-unmarked : (u : ℕ) → marked (replicate 4096 0) u ≡ false
+unmarked : (u : ℕ) → marked (replicate 4096 false) u ≡ false
 unfolding marked
-unmarked u = ap (λ n. eqb n 1) (zeros 4096 u)
+unmarked u = none 4096 u
   where
-    zeros : (n i : ℕ) → ◌≡◌ {A = ℕ} (get_or (replicate n 0) i 0) 0
-    zeros zero i = refl
-    zeros (suc n) zero = refl
-    zeros (suc n) (suc i) = zeros n i
+    none : (n i : ℕ) → ◌≡◌ {A = Bool} (get_or (replicate n false) i false) false
+    none zero i = refl
+    none (suc n) zero = refl
+    none (suc n) (suc i) = none n i
 
 -- ---- what the working table says of the circuit
 
@@ -86,11 +85,11 @@ module _ (c : Counts) (words : List ℕ) (legal : Legal c words) (state : Cube) 
         }
 
     -- no marks: nothing is followed yet
-    fresh_ready : Ready (followed_in words (gates_at c) first table) (x / 2) (replicate 4096 0)
-    fresh_ready = record { long = length-replicate {A = ℕ} 4096 0; closed = λ v w l e f. absurd (false≢true (sym (unmarked v) ∙ e)) }
+    fresh_ready : Ready (followed_in words (gates_at c) first table) (x / 2) (replicate 4096 false)
+    fresh_ready = record { long = length-replicate {A = Bool} 4096 false; closed = λ v w l e f. absurd (false≢true (sym (unmarked v) ∙ e)) }
 
     -- as the code has the first gate's word
-    pub first_asked : (at : ℕ) → at ≡ gates_at c → Askable words at first table x (value ternary (values_of table) x) × Ready (followed_in words at first table) (x / 2) (replicate 4096 0)
+    pub first_asked : (at : ℕ) → at ≡ gates_at c → Askable words at first table x (value ternary (values_of table) x) × Ready (followed_in words at first table) (x / 2) (replicate 4096 false)
     first_asked at e = rw e (literal_askable, fresh_ready)
 
     below : x / 2 < first + c.gates
@@ -109,7 +108,7 @@ module _ (c : Counts) (words : List ℕ) (legal : Legal c words) (state : Cube) 
         (λ v h. sym (entry_at v h))
 
     -- from no marks a latch is marked where it forces the literal's value
-    marked_forces : (marks : List ℕ) → FollowedMarks (followed_in words (gates_at c) first table) (replicate 4096 0) marks (x / 2)
+    marked_forces : (marks : List Bool) → FollowedMarks (followed_in words (gates_at c) first table) (replicate 4096 false) marks (x / 2)
         → (i : ℕ) → marked marks (1 + c.inputs + i) ≡ forces (circuit_of c words) state x i
     unfolding forces circuit_of
     marked_forces marks f i = rw (first_gate_lem c words)
@@ -126,7 +125,7 @@ get_or_unpack f bytes i h = get_or_tabulate f _ i unknown h
 
 module _ (c : Counts) (words : List ℕ) (legal : Legal c words) (bytes table : List ℕ) (begins : Begins table (values_in (circuit_of c words) (unpack c.latches bytes)))
     (x : ℕ) (within : x ≤ top c) where
-  pub marked_forcing : (at : ℕ) → at ≡ gates_at c → (marks : List ℕ) → FollowedMarks (followed_in words at (1 + c.inputs + c.latches) table) (replicate 4096 0) marks (x / 2)
+  pub marked_forcing : (at : ℕ) → at ≡ gates_at c → (marks : List Bool) → FollowedMarks (followed_in words at (1 + c.inputs + c.latches) table) (replicate 4096 false) marks (x / 2)
       → marked_fields marks bytes (1 + c.inputs) c.latches ≡ forcing (circuit_of c words) (unpack c.latches bytes) x
   unfolding marked_fields forcing
   marked_forcing at e marks f =

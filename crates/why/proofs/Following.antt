@@ -1,5 +1,5 @@
 -- Laws of following with marks, by the numbers that fall: what a call leaves, from what the calls that it makes leave. Assumes nothing.
-use mathlib.Core.Path.{◌≡◌, refl, sym, ap, ◌∙◌}
+use mathlib.Core.Path.{◌≡◌, refl, sym, ◌∙◌}
 use mathlib.Core.Bool.{Bool, true, false, false≢true}
 use mathlib.Core.Logic.{◌⊎◌, inl, inr}
 use mathlib.Core.List.{List, [], ◌∷◌}
@@ -23,16 +23,16 @@ pub record Marks (m m₁ : ℕ → Bool) (x : ℕ) : Type 0 where
   pub has : m₁ x ≡ true
   pub only : (u : ℕ) → m₁ u ≡ true → (m u ≡ true) ⊎ (x ≡ u)
 
-module _ (l : List ℕ) (x : ℕ) (h : x < length l) where
-  same_mark : marked (set l x 1) x ≡ true
+module _ (l : List Bool) (x : ℕ) (h : x < length l) where
+  same_mark : marked (set l x true) x ≡ true
   unfolding marked
-  same_mark = rw (get_or-set_same l x 1 0 h)
+  same_mark = rw (get_or-set_same l x true false h)
 
-  other_mark : (u : ℕ) → (u ≡ x → ⊥) → marked (set l x 1) u ≡ marked l u
+  other_mark : (u : ℕ) → (u ≡ x → ⊥) → marked (set l x true) u ≡ marked l u
   unfolding marked
-  other_mark u d = ap (λ n. eqb n 1) (get_or-set_other l x u 1 0 d)
+  other_mark u d = get_or-set_other l x u true false d
 
-  pub set_marks : Marks (marked l) (marked (set l x 1)) x
+  pub set_marks : Marks (marked l) (marked (set l x true)) x
   set_marks = record {
     keeps = λ u e. by_test (eqb u x) (λ t. rw (eqb-true u x t) same_mark) (λ t. other_mark u (eqb-false u x t) ∙ e);
     above = λ u g. other_mark u (λ e. omega arith);

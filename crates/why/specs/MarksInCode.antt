@@ -1,5 +1,5 @@
--- The marks that following leaves, as the code holds them: a byte for each variable, 1 where its value was asked about. Nothing here has to be believed. Assumes nothing.
-use Rattle.std.specs.Prelude.{◌≡◌, Bool, true, not, ◌&&◌, ◌⊎◌, List, ℕ, suc, ◌+◌, ◌*◌, ◌-◌, ◌/◌, ◌<◌, eqb, leb, length, get_or, set}
+-- The marks that following leaves, as the code holds them: one for each variable, set where its value was asked about. Nothing here has to be believed. Assumes nothing.
+use Rattle.std.specs.Prelude.{◌≡◌, Bool, true, false, not, ◌&&◌, ◌⊎◌, List, ℕ, suc, ◌+◌, ◌*◌, ◌-◌, ◌/◌, ◌<◌, leb, length, get_or, set}
 use Rattle.three.specs.Lists.{tabulate, over}
 use Rattle.three.specs.Value.{Three, decode, low, both, ternary}
 use Rattle.three.specs.Cube.{Cube, blank}
@@ -9,12 +9,13 @@ use Rattle.circuit.specs.Circuit.{value}
 use Rattle.circuit.specs.Refusal.{refusal, left_by}
 use Rattle.pass.specs.ValuesInCode.{values_of, Working, Gateable}
 use Rattle.asked.specs.Follow.{followed}
+use Rattle.why.specs.declared.Gates.{Gates}
 use Rattle.asked.specs.AskedInCode.{Leads, Asked, gate_in}
 use Rattle.asked.specs.Call.{answer_tests, why_fields}
 
 -- variable u is marked
-unfoldable pub marked : List ℕ → ℕ → Bool
-marked marks u = eqb (get_or marks u 0) 1
+unfoldable pub marked : List Bool → ℕ → Bool
+marked marks u = get_or marks u false
 
 -- ---- marks and what is followed
 
@@ -33,12 +34,12 @@ module _ (follows : ℕ → List ℕ) where
     pub only : (u : ℕ) → m' u ≡ true → (m u ≡ true) ⊎ Asked follows x u
 
   -- marks from which x can be asked about: those that are being followed lie above it
-  pub record Ready (x : ℕ) (marks : List ℕ) : Type 0 where
+  pub record Ready (x : ℕ) (marks : List Bool) : Type 0 where
     pub long : length marks ≡ 4096
     pub closed : Closed (suc x) (marked marks)
 
   -- the marks that asking about x leaves
-  pub record FollowedMarks (marks marks' : List ℕ) (x : ℕ) : Type 0 where
+  pub record FollowedMarks (marks marks' : List Bool) (x : ℕ) : Type 0 where
     pub long : length marks' ≡ 4096
     pub followed_from : Followed (marked marks) (marked marks') x
 
@@ -55,14 +56,21 @@ pub record Askable (words : List ℕ) (at first : ℕ) (values : List ℕ) (x : 
       → get_or (values_of values) (first + i) low ≡ both (value ternary (values_of values) (get_or words (at + 2 * i) 0)) (value ternary (values_of values) (get_or words (at + 2 * i + 1) 0))
   pub reads : value ternary (values_of values) x ≡ a
 
+-- the same, of the gates as the code hands them on
+abbrev pub follows : Gates → ℕ → List ℕ
+follows g = followed_in g.table.now g.at g.first g.values.now.bytes
+
+abbrev pub AskableOf : Gates → ℕ → Three → Type 0
+AskableOf g x a = Askable g.table.now g.at g.first g.values.now.bytes x a
+
 -- the fields of a record whose variables are marked, the first of them variable `first`; the others are X
-unfoldable pub marked_fields : List ℕ → List ℕ → ℕ → ℕ → Cube
+unfoldable pub marked_fields : List Bool → List ℕ → ℕ → ℕ → Cube
 marked_fields marks bytes first count = tabulate count (λ i. blank (decode (pair_at bytes i)) (not (marked marks (first + i))))
 
 -- what marking a variable answers, whether it is a gate that was not yet followed, and leaves: so none is followed twice
-pub record Begun (first v : ℕ) (marks marks' : List ℕ) (r : Bool) : Type 0 where
+pub record Begun (first v : ℕ) (marks marks' : List Bool) (r : Bool) : Type 0 where
   pub answers : r ≡ (not (marked marks v) && leb first v)
-  pub sets : marks' ≡ set marks v 1
+  pub sets : marks' ≡ set marks v true
 
 -- the number and the result's buffer behind 23, for a lamp of a legal circuit
 pub record Answered (c : Counts) (table state : List ℕ) (lamp : ℕ) (why : List ℕ) (number : ℕ) (why' : List ℕ) : Type 0 where

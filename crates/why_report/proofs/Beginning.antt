@@ -5,6 +5,7 @@ use Prim.Native.Nat.{ℕ, zero, suc, ◌+◌, ◌-◌, ◌≤◌, ◌<◌}
 use native.Mathlib.Omega.{arith}
 use borrow.Author.Tests.{le-ltb, lt-ltb}
 use lib.ListN.{length, get_or}
+use Rattle.std.specs.Prelude.{Some, None}
 use Rattle.three.specs.Value.{unknown, code, decode}
 use Rattle.three.specs.Cube.{Cube, alike}
 use Rattle.three.specs.Record.{pair_at, unpack}
@@ -46,24 +47,27 @@ module _ (counts : Counts) (table cubes : List ℕ) (n j : ℕ) (judgeable : Jud
   abbrev whole : List ℕ
   whole = explained lamp (circuit_of counts table) (cube_in counts.latches cubes) n
 
+  pub never_refused : {q : JudgeAnswer} {verdict' settled' : List ℕ} → Judged own q verdict' settled' → q.number ≡ 0
+  never_refused judged = judged.answers ∙ sym (judgeable.judged verdict₀ settled₀ v s)
+
   module _ {q : JudgeAnswer} {verdict' settled' : List ℕ} (judged : Judged own q verdict' settled') {field : ℕ} (f : field ≡ pair_at verdict' lamp) where
     verdict_as : decode field ≡ get_or (verdict (circuit_of counts table) (cube_in counts.latches cubes) n) lamp unknown
     unfolding unpack verdict_fields judged_in cubes_in
     verdict_as =
         ap decode f
         ∙ sym (get_or_tabulate (verdicts counts) (λ i. decode (pair_at verdict' i)) lamp unknown (omega (arith, is_lamp)))
-        ∙ ap (λ (fields : Cube). get_or fields lamp unknown) (verdict_is own q verdict' settled' judged (judged.answers ∙ sym (judgeable.judged verdict₀ settled₀ v s)))
+        ∙ ap (λ (fields : Cube). get_or fields lamp unknown) (verdict_is own q verdict' settled' judged (never_refused judged))
 
     module _ {out out' : List ℕ} {r : ℕ} (put : Put out 0 (row Row.Lamp lamp (decode field)) out' r × (r ≤ length out)) where
-      pub verdict_open : field ≡ 0 → Begins counts table cubes whole lamp out r 0 out'
+      pub verdict_open : field ≡ 0 → Begins table cubes whole lamp out (record { bytes = r; following = None }) out'
       unfolding explained told_from is_known alike code decode
-      verdict_open z = record { piece = put_piece (rw (← verdict_as, z)) put; ready = λ h. absurd (omega arith) }
+      verdict_open z = record { piece = put_piece (rw (← verdict_as, z)) put; ready = tt }
 
-      pub verdict_known : (field ≡ 0 → ⊥) → Begins counts table cubes whole lamp out r n out'
+      pub verdict_known : (field ≡ 0 → ⊥) → Begins table cubes whole lamp out (record { bytes = r; following = Some (record { counts = counts; cubes = n }) }) out'
       unfolding explained explanation_in
       verdict_known h = record {
         piece = put_piece (rw (← verdict_as, known_field field h)) put;
-        ready = λ z. record { are = judgeable.are; is_lamp = is_lamp; known = known_in counts table (cube_in counts.latches cubes) n lamp is_lamp (rw (← verdict_as) (known_field field h)) };
+        ready = record { are = judgeable.are; is_lamp = is_lamp; known = known_in counts table (cube_in counts.latches cubes) n lamp is_lamp (rw (← verdict_as) (known_field field h)) };
       }
 
 -- ---- the same cubes by other names

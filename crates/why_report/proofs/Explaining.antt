@@ -73,15 +73,20 @@ module _ (counts : Counts) (table cubes : List ℕ) (lamp : ℕ) where
       fields_are : unpack counts.latches state ≡ cube_in counts.latches cubes k
       fields_are = rw stored (unpack_over counts.latches _ (replicate 128 0) (cube_of_sized counts.latches _)) ∙ cube_at_lem counts.latches size cubes k
 
-      -- nothing is refused, and the answer is the explanation
+      -- nothing is refused
+      pub never_refused : (out out' : List ℕ) (number : ℕ) → length out ≡ 128 → Explained (record { counts = counts; table = table; state = state; lamp = lamp; why = out }) number out' → number ≡ 0
+      never_refused out out' number room y =
+          let known : lamp_in (circuit_of counts table) (unpack counts.latches state) lamp ≡ unknown → ⊥ = rw fields_are (ready.known k (omega arith)) in
+          y.answers ∙ sym (answer_decides (record { counts = counts; table = table; state = state; lamp = lamp; why = out }) ready.are.accepts
+          (given_passes counts _ lamp is_record.fits is_record.good ready.is_lamp)
+          (answer_passes counts table _ lamp (length out) known (omega (arith, room, few))))
+
+      -- and the answer is the explanation
       pub explained_in : (out out' : List ℕ) (number : ℕ) → length out ≡ 128 → Explained (record { counts = counts; table = table; state = state; lamp = lamp; why = out }) number out'
           → (out' ≡ over (pack (explanation_in counts table cubes lamp k)) out) × (length out' ≡ 128)
       unfolding left_by why_fields explanation_in explanation
       explained_in out out' number room y =
-          let known : lamp_in (circuit_of counts table) (unpack counts.latches state) lamp ≡ unknown → ⊥ = rw fields_are (ready.known k (omega arith)) in
-          let passes : number ≡ 0 = y.answers ∙ sym (answer_decides (record { counts = counts; table = table; state = state; lamp = lamp; why = out }) ready.are.accepts
-          (given_passes counts _ lamp is_record.fits is_record.good ready.is_lamp)
-          (answer_passes counts table _ lamp (length out) known (omega (arith, room, few)))) in
+          let passes = never_refused out out' number room y in
           let filled : out' ≡ over (pack (explanation_in counts table cubes lamp k)) out = rw (passes, fields_are) at y.fills in
           (filled, ap (λ (l : List ℕ). length l) filled ∙ length_over _ out (omega (arith, room, length_pack (explanation_in counts table cubes lamp k), explained_sized k, few)) ∙ room)
 

@@ -2,13 +2,12 @@
 use mathlib.Core.Path.{◌≡◌, refl, sym}
 use mathlib.Core.List.{List, [], ◌++◌, append-nil}
 use Prim.Native.Nat.{ℕ, ◌≤◌}
-use native.Mathlib.Omega.{arith}
 use lib.ListN.{length}
-use Rattle.circuit.specs.declared.Counts.{Counts}
+use Rattle.std.specs.Prelude.{None}
 use Rattle.putting.specs.PutInCode.{Put}
-use Rattle.reasons.specs.Reasons.{told_from}
 use Rattle.reporting.proofs.Reading.{put_front}
 use Rattle.reporting.specs.Reporting.{Piece}
+use Rattle.why_report.specs.declared.Begun.{Begun}
 use Rattle.why_report.specs.WhyReportInCode.{Begins}
 
 pub put_piece : {before after out out' piece : List ℕ} {r : ℕ} → before ≡ piece ++ after → Put out 0 piece out' r × (r ≤ length out) → Piece before after out r out'
@@ -19,12 +18,10 @@ pub put_whole : {whole out out' : List ℕ} {r : ℕ} → Put out 0 whole out' r
 put_whole p = put_piece (sym (append-nil _)) p
 
 -- after which no cube follows
-pub only_piece : (counts : Counts) (table cubes : List ℕ) (lamp : ℕ) {whole whole' out out' : List ℕ} {r n : ℕ} → whole ≡ whole' → Piece whole [] out r out' → n ≡ 0
-    → Begins counts table cubes whole' lamp out r n out'
-unfolding told_from
-only_piece counts table cubes lamp e p z = rw (z, ← e) (record { piece = p; ready = λ h. absurd (omega arith) })
+pub only_piece : (table cubes : List ℕ) (lamp : ℕ) (b : Begun) {whole whole' out out' : List ℕ} → whole ≡ whole' → Piece whole [] out b.bytes out' → b.following ≡ None
+    → Begins table cubes whole' lamp out b out'
+only_piece table cubes lamp b e p z = record { piece = rw (z, ← e) p; ready = rw z tt }
 
--- the same for a whole and counts by other names
-pub begins_as : (counts counts' : Counts) (table cubes : List ℕ) (lamp : ℕ) {whole whole' out out' : List ℕ} {r n : ℕ} → counts' ≡ counts → whole ≡ whole'
-    → Begins counts table cubes whole lamp out r n out' → Begins counts' table cubes whole' lamp out r n out'
-begins_as counts counts' table cubes lamp c e b = rw (c, ← e) b
+-- the same for a whole by another name
+pub begins_as : (table cubes : List ℕ) (lamp : ℕ) (b : Begun) {whole whole' out out' : List ℕ} → whole ≡ whole' → Begins table cubes whole lamp out b out' → Begins table cubes whole' lamp out b out'
+begins_as table cubes lamp b e begins = rw (← e) begins

@@ -1,5 +1,5 @@
 -- What functions inside hand to each other: cubes that a chain left, and those in which a lamp is known; nothing here has to be believed. Assumes nothing.
-use Rattle.std.specs.Prelude.{◌≡◌, List, ◌++◌, ℕ, ◌+◌, ◌≤◌, ◌<◌, length}
+use Rattle.std.specs.Prelude.{◌≡◌, List, [], ◌++◌, ℕ, ◌+◌, ◌≤◌, ◌<◌, length, Option, Some, None, IfSome}
 use Rattle.three.specs.Lists.{over}
 use Rattle.three.specs.Value.{unknown}
 use Rattle.three.specs.Cube.{Cube}
@@ -13,6 +13,8 @@ use Rattle.cubes.specs.Judge.{judge_tests}
 use Rattle.asked.specs.Call.{lamp_in}
 use Rattle.reasons.specs.Reasons.{line, told_from}
 use Rattle.reporting.specs.Reporting.{Piece}
+use Rattle.why_report.specs.declared.Following.{Following}
+use Rattle.why_report.specs.declared.Begun.{Begun}
 use Rattle.why_report.specs.WhyReport.{explanation}
 
 module _ (counts : Counts) (table cubes : List ℕ) where
@@ -52,7 +54,12 @@ module _ (counts : Counts) (table cubes : List ℕ) where
     pub below : k < n
     pub rest : lines_from lamp n from ≡ line from k (explanation_in lamp from) ++ lines_from lamp n (k + 1)
 
-  -- the first piece of a whole; the lines of n cubes are left
-  pub record Begins (whole : List ℕ) (lamp : ℕ) (buffer : List ℕ) (bytes n : ℕ) (buffer' : List ℕ) : Type 0 where
-    pub piece : Piece whole (lines_from lamp n 0) buffer bytes buffer'
-    pub ready : 0 < n → Ready lamp n
+-- the lines that follow of stored cubes, if any
+abbrev pub follows : List ℕ → List ℕ → ℕ → Option Following → List ℕ
+follows table cubes lamp (Some f) = lines_from f.counts table cubes lamp f.cubes 0
+follows table cubes lamp None = []
+
+-- the first piece of a whole; what follows is left, of cubes in which the lamp is known
+pub record Begins (table cubes whole : List ℕ) (lamp : ℕ) (buffer : List ℕ) (b : Begun) (buffer' : List ℕ) : Type 0 where
+  pub piece : Piece whole (follows table cubes lamp b.following) buffer b.bytes buffer'
+  pub ready : IfSome b.following (λ f. Ready f.counts table cubes lamp f.cubes)

@@ -1,46 +1,49 @@
 -- Laws of the written first line: the four bytes, M, and the counts up to the last that is written. Assumes nothing.
 use mathlib.Core.Path.{◌≡◌, refl, sym, ap, ◌∙◌}
 use mathlib.Core.List.{List, [], ◌∷◌, ◌++◌, append_assoc}
-use Prim.Native.Nat.{ℕ, zero, suc, ◌+◌}
+use Prim.Native.Nat.{ℕ, zero, suc, ◌+◌, ◌≤◌}
 use native.Mathlib.Omega.{arith}
-use lib.ListN.{length, length-append, get_or, set, length-set}
-use lib.Seq.{sets}
-use Rattle.three.specs.Lists.{tabulate}
+use lib.ListN.{length, length-append, drop, length-drop}
+use Rattle.three.specs.Lists.{over}
 use Rattle.circuit.specs.declared.Counts.{Counts}
 use Rattle.circuit.specs.RulesInCode.{Bounded}
 use Rattle.circuit.specs.Table.{variables}
 use Rattle.text.specs.Decimal.{decimal}
 use Rattle.text.specs.Line.{line_text, ended_line}
 use Rattle.text.specs.Text.{further_numbers, head_numbers}
-use Rattle.text.proofs.Spelling.{listed}
+use Rattle.text.proofs.Stores.{sets_front}
 use Rattle.putting.specs.PutInCode.{Put}
 use Rattle.writer.specs.declared.LineNumbers.{LineNumbers}
-use Rattle.writer.specs.WriterInCode.{and_more, line_numbers, last_numbers, count_numbers, LastCounts}
+use Rattle.writer.specs.declared.LineNumbers.TheVariants.{One, Two, Three}
+use Rattle.writer.specs.WriterInCode.{line_numbers, last_numbers, count_numbers, LastCounts}
 use Rattle.writer.proofs.WrittenLine.{word}
 
 -- ---- the counts behind A
 
-pub further_two : (a b c : ℕ) → (c ≡ 0 → ⊥) → and_more 2 a b c ≡ a ∷ further_numbers b c
-unfolding and_more further_numbers
-further_two a b zero h = absurd (h refl)
-further_two a zero (suc c) h = refl
-further_two a (suc b) (suc c) h = refl
+further_two : (b c : ℕ) → (c ≡ 0 → ⊥) → b ∷ c ∷ [] ≡ further_numbers b c
+unfolding further_numbers
+further_two b zero h = absurd (h refl)
+further_two zero (suc c) h = refl
+further_two (suc b) (suc c) h = refl
 
-pub further_one : (a b c : ℕ) → c ≡ 0 → (b ≡ 0 → ⊥) → and_more 1 a b c ≡ a ∷ further_numbers b c
-unfolding and_more further_numbers
-further_one a b (suc c) z h = absurd (omega arith)
-further_one a zero zero z h = absurd (h refl)
-further_one a (suc b) zero z h = refl
-
-pub further_none : (a b c : ℕ) → c ≡ 0 → b ≡ 0 → and_more 0 a b c ≡ a ∷ further_numbers b c
-unfolding and_more further_numbers
-further_none a b c z h = rw (z, h)
+further_one : (b c : ℕ) → c ≡ 0 → (b ≡ 0 → ⊥) → b ∷ [] ≡ further_numbers b c
+unfolding further_numbers
+further_one b (suc c) z h = absurd (omega arith)
+further_one zero zero z h = absurd (h refl)
+further_one (suc b) zero z h = refl
 
 module _ (c : Counts) where
-  pub last_counts : Bounded c → {more : ℕ} → ((gates : ℕ) → and_more more gates c.bads c.constraints ≡ gates ∷ further_numbers c.bads c.constraints)
-      → LastCounts c (record { more = more; first = c.gates; second = c.bads; third = c.constraints; words = 0 })
+  pub last_three : Bounded c → (c.constraints ≡ 0 → ⊥) → LastCounts c (Three c.gates c.bads c.constraints)
   unfolding last_numbers
-  last_counts b h = record { text = ap line_text (h c.gates); small = omega arith }
+  last_three b h = record { text = rw (further_two _ _ h); small = omega arith }
+
+  pub last_two : Bounded c → c.constraints ≡ 0 → (c.bads ≡ 0 → ⊥) → LastCounts c (Two c.gates c.bads)
+  unfolding last_numbers
+  last_two b z h = record { text = rw (further_one _ _ z h); small = omega arith }
+
+  pub last_one : Bounded c → c.constraints ≡ 0 → c.bads ≡ 0 → LastCounts c (One c.gates)
+  unfolding last_numbers further_numbers
+  last_one b z h = record { text = rw (z, h); small = omega arith }
 
   pub last_length : {line : LineNumbers} → LastCounts c line → length (line_text (line_numbers line)) ≡ length (line_text (last_numbers c))
   last_length l = ap length l.text
@@ -62,6 +65,6 @@ module _ (c : Counts) where
   head_length = ap length (head_text []) ∙ simp length-append (omega arith)
 
 -- the four bytes in front of it
-pub four_put : (d m : List ℕ) → length m ≡ 4 → Put d 0 m (set (set (set (set d 0 (get_or m 0 0)) 1 (get_or m 1 0)) 2 (get_or m 2 0)) 3 (get_or m 3 0)) 4
-unfolding tabulate
-four_put d m h = record { same = ap (λ (l : List ℕ). sets d 0 l) (sym (listed 4 m h)); after = omega arith; long = simp length-set }
+pub four_put : (d m : List ℕ) → length m ≡ 4 → 4 ≤ length d → Put d 0 m (m ++ drop 4 d) 4
+unfolding over
+four_put d m h k = record { same = sym (sets_front d m (omega arith) ∙ rw h); after = omega arith; long = simp (length-append, length-drop) (omega arith) }

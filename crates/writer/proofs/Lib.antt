@@ -1,6 +1,6 @@
 pub mod WrittenLine
 pub mod FirstLine
 pub mod DigitCounts
-pub mod WrittenLines
+pub mod WrittenRows
 pub mod WrittenText
 pub mod WrittenAnswers

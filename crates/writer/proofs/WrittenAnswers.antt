@@ -1,5 +1,5 @@
 -- From what the writer's functions answer to its contract, refusal by refusal. Assumes nothing.
-use mathlib.Core.Path.{◌≡◌, refl, sym, ◌∙◌}
+use mathlib.Core.Path.{◌≡◌, refl, sym, ap, ◌∙◌}
 use mathlib.Core.List.{List}
 use Prim.Native.Nat.{ℕ, zero, suc, ◌+◌, ◌*◌, ◌-◌, ◌/◌, ◌≤◌, ◌<◌}
 use native.Mathlib.Nat.{zero-add}
@@ -7,7 +7,12 @@ use native.Mathlib.Omega.{arith}
 use borrow.Author.Tests.{ltb-true, ltb-false}
 use lib.Dec.{ltb}
 use lib.ListN.{length, get_or}
+use Rattle.std.specs.Prelude.{Result, IsErrAnd}
+use Rattle.std.proofs.lemmas.Result.{err_from_is_err_and}
 use Rattle.circuit.specs.declared.Counts.{Counts}
+use Rattle.circuit.specs.declared.Refusal.{Refusal}
+use Rattle.circuit.specs.Answer.{number_of, answered, answer_or}
+use Rattle.circuit.proofs.Answering.{numbered}
 use Rattle.circuit.specs.Refusal.{refusal}
 use Rattle.circuit.specs.Table.{circuit_tests, table_length, literals_at, gates_at}
 use Rattle.circuit.specs.RulesInCode.{Legal}
@@ -22,9 +27,16 @@ use Rattle.text.proofs.Answers.{write_stops, write_short, write_fits, writing_re
 use Rattle.putting.proofs.Putting.{put_over}
 
 -- 3, 10 for the table, 11
-pub written_stops : (c : Counts) (table written buffer : List ℕ) (n : ℕ) → n ≡ refusal (circuit_tests c table) → (n ≡ 0 → ⊥) → WrittenBy c table written buffer n 0 buffer
+written_stops : (c : Counts) (table written buffer : List ℕ) (n : ℕ) → n ≡ refusal (circuit_tests c table) → (n ≡ 0 → ⊥) → WrittenBy c table written buffer n 0 buffer
 written_stops c table written buffer zero e f = absurd (f refl)
 written_stops c table written buffer (suc k) e f = writing_refused c table written buffer (write_stops c table written buffer (sym e))
+
+-- the same, as the answer of `?`
+pub written_turned : (c : Counts) (table written buffer : List ℕ) (r : Result ℕ Refusal) (e : Refusal) → IsErrAnd r (λ x. x ≡ e) → number_of e ≡ refusal (circuit_tests c table)
+    → WrittenBy c table written buffer (answered r) (answer_or 0 r) buffer
+written_turned c table written buffer r e made same =
+    let (x, was, is) = err_from_is_err_and r made in
+    rw was (written_stops c table written buffer (number_of x) (ap number_of is ∙ same) (numbered x))
 
 -- ---- a legal table's words have at most four digits
 
@@ -47,19 +59,15 @@ legal_small {c} {table} l k h = by_test (ltb k (literals_at c))
     let g : gates_at c ≤ k = ltb-false k (gates_at c) f in
     either_small table (gates_at c + 2 * i) k (omega arith) (omega arith) (omega (arith, l.bounded, l.left i (omega arith))) (omega (arith, l.bounded, l.right i (omega arith)))))
 
+-- what the passes may assume
+pub written_ready : (c : Counts) (table : List ℕ) → 0 ≡ refusal (circuit_tests c table) → Writable c table
+written_ready c table nothing =
+    let l : Legal c table = legal c table nothing in
+    record { bounded = l.bounded; long = l.long; small = legal_small l; below = λ i h. (omega (arith, l.left i h), omega (arith, l.right i h)) }
+
 -- ---- the call
 
-module _ (c : Counts) (table written : List ℕ) {n : ℕ} (e : n ≡ refusal (circuit_tests c table)) (z : n ≡ 0) where
-  nothing : 0 ≡ refusal (circuit_tests c table)
-  nothing = sym z ∙ e
-
-  pub written_legal : Legal c table
-  written_legal = legal c table nothing
-
-  -- what the passes may assume
-  pub written_ready : (0 ≡ refusal (circuit_tests c table) → length written ≤ 60000) → Writable c table written 60000
-  written_ready bound = record { bounded = written_legal.bounded; long = written_legal.long; small = legal_small written_legal; fits = bound nothing }
-
+module _ (c : Counts) (table written : List ℕ) (nothing : 0 ≡ refusal (circuit_tests c table)) where
   -- 10 for the bytes
   pub written_short : (buffer : List ℕ) → length buffer < length written → WrittenBy c table written buffer 10 0 buffer
   written_short buffer h = writing_refused c table written buffer (write_short c table written buffer nothing h)

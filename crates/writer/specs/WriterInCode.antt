@@ -1,22 +1,22 @@
 -- The numbers of a line and the lines of a text as the writer's code has them; nothing here has to be believed. Assumes nothing.
-use Rattle.std.specs.Prelude.{◌≡◌, List, [], ◌∷◌, ℕ, zero, suc, ◌+◌, ◌*◌, ◌≤◌, ◌<◌, length, get_or, drop}
+use Rattle.std.specs.Prelude.{◌≡◌, List, [], ◌∷◌, ℕ, ◌+◌, ◌*◌, ◌≤◌, ◌<◌, length, get_or, drop}
 use Rattle.circuit.specs.declared.Counts.{Counts}
-use Rattle.circuit.specs.Table.{table_length, Kind, several, width}
+use Rattle.circuit.specs.Table.{table_length, literals, literals_at, gates_at, Kind, several, width}
 use Rattle.circuit.specs.RulesInCode.{Bounded}
 use Rattle.writer.specs.declared.LineNumbers.{LineNumbers}
+use Rattle.writer.specs.declared.Rows.{Rows}
+use Rattle.writer.specs.declared.LineNumbers.TheVariants.{One, Two, Three}
+use Rattle.text.specs.declared.LineKind.{LineKind}
+use Rattle.text.specs.declared.LineKind.TheVariants.{Input, Latch, Lamp, Gate}
 use Rattle.text.specs.KindsInCode.{coded}
 use Rattle.text.specs.Line.{line_text}
 use Rattle.text.specs.Text.{further_numbers, shown, write_rows}
 
--- the first number, and so many more
-unfoldable pub and_more : ℕ → ℕ → ℕ → ℕ → List ℕ
-and_more zero a b c = a ∷ []
-and_more (suc zero) a b c = a ∷ b ∷ []
-and_more (suc (suc n)) a b c = a ∷ b ∷ c ∷ []
-
 -- the numbers of a line, as the code hands them on
 abbrev pub line_numbers : LineNumbers → List ℕ
-line_numbers l = and_more l.more l.first l.second l.third
+line_numbers (One a) = a ∷ []
+line_numbers (Two a b) = a ∷ b ∷ []
+line_numbers (Three a b c) = a ∷ b ∷ c ∷ []
 
 -- A, and B and C where they are written
 unfoldable pub last_numbers : Counts → List ℕ
@@ -27,10 +27,10 @@ unfoldable pub count_numbers : Counts → List ℕ
 count_numbers c = c.inputs ∷ c.latches ∷ c.lamps ∷ last_numbers c
 
 -- a line's numbers, each of at most four digits
-pub record Small (line : LineNumbers) : Type 0 where
-  pub first : line.first < 10000
-  pub second : line.second < 10000
-  pub third : line.third < 10000
+abbrev pub Small : LineNumbers → Type 0
+Small (One a) = a < 10000
+Small (Two a b) = (a < 10000) × (b < 10000)
+Small (Three a b c) = (a < 10000) × (b < 10000) × (c < 10000)
 
 -- the last counts, as a line's numbers
 pub record LastCounts (c : Counts) (line : LineNumbers) : Type 0 where
@@ -44,32 +44,49 @@ SmallWords words n = (k : ℕ) → k < n → get_or words k 0 < 10000
 -- the line of a latch
 pub record LatchLine (own next reset : ℕ) (line : LineNumbers) : Type 0 where
   pub same : line_numbers line ≡ own ∷ next ∷ shown own reset
-  pub wide : line.words ≡ 2
   pub small : Small line
 
--- what is written for a kind whose words stand at word `at`, and how many words those are
-pub record RowAt (each : Kind → List ℕ → List ℕ) (kind own : ℕ) (words : List ℕ) (at : ℕ) (row : List ℕ) (wide : ℕ) : Type 0 where
-  pub same : row ≡ each (coded kind own) (drop at words)
-  pub width : wide ≡ width (coded kind own)
+-- a row of the table: its words are there and have at most four digits, and a gate's operands stand below its own literal
+pub record RowThere (kind : LineKind) (own : ℕ) (words : List ℕ) (at : ℕ) : Type 0 where
+  pub literal : own < 10000
+  pub there : at + width (coded kind own) ≤ length words
+  pub small : SmallWords words (at + width (coded kind own))
+  pub below : kind ≡ Gate → (get_or words at 0 < own) × (get_or words (at + 1) 0 < own)
 
--- the line of such a kind
-pub record Shows (each : Kind → List ℕ → List ℕ) (kind own : ℕ) (words : List ℕ) (at : ℕ) (line : LineNumbers) : Type 0 where
-  pub row : RowAt each kind own words at (line_text (line_numbers line)) line.words
+-- the line of a kind whose words stand at word `at`
+pub record Shows (each : Kind → List ℕ → List ℕ) (kind : LineKind) (own : ℕ) (words : List ℕ) (at : ℕ) (line : LineNumbers) : Type 0 where
+  pub row : line_text (line_numbers line) ≡ each (coded kind own) (drop at words)
   pub small : Small line
+
+-- the rows of a kind, by the counts
+abbrev pub rows_of : Counts → LineKind → Rows
+rows_of c Input = record { kind = Input; own = 2; count = c.inputs; at = 0 }
+rows_of c Latch = record { kind = Latch; own = 2 + 2 * c.inputs; count = c.latches; at = 0 }
+rows_of c Lamp = record { kind = Lamp; own = 0; count = literals c; at = literals_at c }
+rows_of c Gate = record { kind = Gate; own = 2 + 2 * c.inputs + 2 * c.latches; count = c.gates; at = gates_at c }
 
 -- what is written for `count` of a kind, the first with the literal own and its words at word `at`
-unfoldable pub block : (Kind → List ℕ → List ℕ) → ℕ → ℕ → ℕ → List ℕ → ℕ → List ℕ
-block each kind own count words at = write_rows each (several (coded kind) own count []) (drop at words)
+unfoldable pub run : (Kind → List ℕ → List ℕ) → LineKind → ℕ → ℕ → List ℕ → ℕ → List ℕ
+run each kind own count words at = write_rows each (several (coded kind) own count []) (drop at words)
 
--- those lines have their words, and their numbers have at most four digits
-pub record Lines (kind own count : ℕ) (words : List ℕ) (at : ℕ) : Type 0 where
-  pub literals : own + 2 * count ≤ 10000
-  pub there : at + count * width (coded kind 0) ≤ length words
-  pub small : SmallWords words (at + count * width (coded kind 0))
+-- the same for such rows
+abbrev pub block : (Kind → List ℕ → List ℕ) → Rows → List ℕ → List ℕ
+block each r words = run each r.kind r.own r.count words r.at
 
--- a circuit for which these bytes are to be written into so many
-pub record Writable (c : Counts) (words written : List ℕ) (room : ℕ) : Type 0 where
+-- the operands of gates stand below their own literals
+abbrev pub Below : ℕ → ℕ → List ℕ → ℕ → Type 0
+Below own count words at = (i : ℕ) → i < count → (get_or words (at + 2 * i) 0 < own + 2 * i) × (get_or words (at + 2 * i + 1) 0 < own + 2 * i)
+
+-- those rows are there, as each of them is
+pub record Lines (r : Rows) (words : List ℕ) : Type 0 where
+  pub literals : r.own + 2 * r.count ≤ 10000
+  pub there : r.at + r.count * width (coded r.kind 0) ≤ length words
+  pub small : SmallWords words (r.at + r.count * width (coded r.kind 0))
+  pub below : r.kind ≡ Gate → Below r.own r.count words r.at
+
+-- what the passes may assume of a circuit
+pub record Writable (c : Counts) (words : List ℕ) : Type 0 where
   pub bounded : Bounded c
   pub long : table_length c ≤ length words
   pub small : SmallWords words (table_length c)
-  pub fits : length written ≤ room
+  pub below : Below (2 + 2 * c.inputs + 2 * c.latches) c.gates words (gates_at c)

@@ -1,55 +1,55 @@
-// The writer of a circuit's text (specification, 4.10). Every `put` answers the position behind the bytes that it writes.
+// The writer of a circuit's text in either form (specification, 4.10 and 4.18). Every `put` answers the position behind the bytes that it writes.
 #![tactic(auto)]
 
-ghost use Rattle.std.specs.Prelude.{◌≡◌, ℕ, ◌≤◌, ◌<◌, ◌+◌, ◌*◌, length, ◌++◌, [], ◌∷◌};
+ghost use Rattle.std.specs.Prelude.{◌≡◌, List, ℕ, ◌≤◌, ◌<◌, ◌+◌, ◌*◌, length, drop, ◌++◌, [], ◌∷◌};
+ghost use Rattle.circuit.specs.Answer.{answered, answer_or};
+ghost use Rattle.circuit.specs.Refusal.{refusal};
 ghost use Rattle.circuit.specs.RulesInCode.{Bounded};
-ghost use Rattle.circuit.specs.Table.{width};
+ghost use Rattle.circuit.specs.Table.{Kind, kinds, circuit_tests};
 ghost use Rattle.text.specs.Decimal.{decimal};
 ghost use Rattle.text.specs.Line.{line_text};
-ghost use Rattle.text.specs.Text.{magic as plain_magic, further_numbers, head_numbers, shown, line_of, write_text};
-ghost use Rattle.text.specs.Calls.{Writing};
+ghost use Rattle.text.specs.Text.{head_numbers, shown, line_of, write_rows, write_opened};
+ghost use Rattle.text.specs.Calls.{WrittenBy, Writing};
 ghost use Rattle.text.specs.KindsInCode.{coded};
 ghost use Rattle.putting.specs.PutInCode.{Put};
-ghost use Rattle.writer.specs.WriterInCode.{and_more, line_numbers, count_numbers, LastCounts, Small, SmallWords, LatchLine, Shows, block, Lines, Writable};
+ghost use Rattle.writer.specs.WriterInCode.{line_numbers, count_numbers, LastCounts, Small, RowThere, LatchLine, Shows, rows_of, block, Lines, Writable};
 
-use circuit::Counts;
-use text::{GATE_LINE, INPUT_LINE, LAMP_LINE, LATCH_LINE, MAGIC};
+use circuit::{Counts, Refusal};
+use text::{LineKind, MAGIC};
 
 // The four bytes that a file opens with.
 fn put_magic(text: &mut [u8], magic: &[u8; 4]) -> usize
-    requires { (length magic.now ≡ 4) × (4 ≤ length text.old) }
+    requires { 4 ≤ length text.old }
     ensures { Put text.old 0 magic.now text.new result }
 {
-    text[0] = magic[0];
-    text[1] = magic[1];
-    text[2] = magic[2];
-    text[3] = magic[3];
+    text[..4].copy_from_slice(magic);
     4
 }
 
-// A line's first number, 0, 1 or 2 more, and how many words of the table belong to it.
+// The numbers of a line.
 #[derive(Clone, Copy)]
-pub struct LineNumbers {
-    pub more: usize,
-    pub first: usize,
-    pub second: usize,
-    pub third: usize,
-    pub words: usize,
+pub enum LineNumbers {
+    One(usize),
+    Two(usize, usize),
+    Three(usize, usize, usize),
 }
 
 pub fn put_line(text: &mut [u8], at: usize, line: LineNumbers) -> usize
     requires { Small line × (at + length (line_text (line_numbers line)) ≤ length text.old) }
     ensures { Put text.old at (line_text (line_numbers line)) text.new result }
 {
-    if line.more == 0 {
-        return putting::put_word(text, at, line.first, 10);
+    match line {
+        LineNumbers::One(first) => putting::put_word(text, at, first, 10),
+        LineNumbers::Two(first, second) => {
+            let behind = putting::put_word(text, at, first, 32);
+            putting::put_word(text, behind, second, 10)
+        }
+        LineNumbers::Three(first, second, third) => {
+            let behind = putting::put_word(text, at, first, 32);
+            let last = putting::put_word(text, behind, second, 32);
+            putting::put_word(text, last, third, 10)
+        }
     }
-    let second = putting::put_word(text, at, line.first, 32);
-    if line.more == 1 {
-        return putting::put_word(text, second, line.second, 10);
-    }
-    let third = putting::put_word(text, second, line.second, 32);
-    putting::put_word(text, third, line.third, 10)
 }
 
 // The number that stands for a reset of 1, or for no start value.
@@ -69,110 +69,132 @@ fn latch_line(own: usize, next: usize, reset: usize) -> LineNumbers
     ensures { LatchLine own next reset result }
 {
     if reset == 0 {
-        return LineNumbers {
-            more: 1,
-            first: own,
-            second: next,
-            third: 0,
-            words: 2,
-        };
+        return LineNumbers::Two(own, next);
     }
-    LineNumbers {
-        more: 2,
-        first: own,
-        second: next,
-        third: shown_reset(own, reset),
-        words: 2,
+    LineNumbers::Three(own, next, shown_reset(own, reset))
+}
+
+// A form of the text, by what it has for the row of a kind whose words stand at word `at`: how many bytes, and the bytes.
+pub trait Form {
+    ghost each: { Kind → List ℕ → List ℕ };
+
+    fn row_length(kind: LineKind, own: usize, table: &[u16], at: usize) -> usize
+        requires { RowThere kind own table.now at }
+        ensures { result ≡ length (each (coded kind own) (drop at table.now)) };
+
+    fn put_row(
+        text: &mut [u8],
+        end: usize,
+        kind: LineKind,
+        own: usize,
+        table: &[u16],
+        at: usize,
+    ) -> usize
+        requires { RowThere kind own table.now at × (end + length (each (coded kind own) (drop at table.now)) ≤ length text.old) }
+        ensures { Put text.old end (each (coded kind own) (drop at table.now)) text.new result };
+}
+
+// The text, where each row is a line.
+struct Plain;
+
+impl Form for Plain {
+    ghost each = { line_of };
+
+    fn row_length(kind: LineKind, own: usize, table: &[u16], at: usize) -> usize {
+        line_length(written_line(kind, own, table, at))
+    }
+
+    fn put_row(
+        text: &mut [u8],
+        end: usize,
+        kind: LineKind,
+        own: usize,
+        table: &[u16],
+        at: usize,
+    ) -> usize {
+        put_line(text, end, written_line(kind, own, table, at))
     }
 }
 
 // The line of a kind whose words stand at word `at`.
-fn written_line(kind: u8, own: usize, table: &[u16], at: usize) -> LineNumbers
-    requires { (own < 10000) × (at + width (coded kind own) ≤ length table.now) × SmallWords table.now (at + width (coded kind own)) }
+fn written_line(kind: LineKind, own: usize, table: &[u16], at: usize) -> LineNumbers
+    requires { RowThere kind own table.now at }
     ensures { Shows line_of kind own table.now at result }
 {
-    if kind == INPUT_LINE {
-        return LineNumbers {
-            more: 0,
-            first: own,
-            second: 0,
-            third: 0,
-            words: 0,
-        };
-    }
-    let left = table[at] as usize;
-    if kind == LAMP_LINE {
-        return LineNumbers {
-            more: 0,
-            first: left,
-            second: 0,
-            third: 0,
-            words: 1,
-        };
-    }
-    let right = table[at + 1] as usize;
-    if kind == LATCH_LINE {
-        return latch_line(own, left, right);
-    }
-    LineNumbers {
-        more: 2,
-        first: own,
-        second: left,
-        third: right,
-        words: 2,
+    match kind {
+        LineKind::Input => LineNumbers::One(own),
+        LineKind::Latch => latch_line(own, table[at] as usize, table[at + 1] as usize),
+        LineKind::Lamp => LineNumbers::One(table[at] as usize),
+        LineKind::Gate => { LineNumbers::Three(own, table[at] as usize, table[at + 1] as usize) }
     }
 }
 
-// Lines of one kind, the first with the literal `own` and its words at word `at`.
-fn put_lines(
-    text: &mut [u8],
-    start: usize,
-    kind: u8,
+// The rows of one kind, the first with the literal `own` and its words at word `at`.
+#[derive(Clone, Copy)]
+struct Rows {
+    kind: LineKind,
     own: usize,
     count: usize,
-    table: &[u16],
     at: usize,
-) -> usize
-    requires { Lines kind own count table.now at × (start + length (block line_of kind own count table.now at) ≤ length text.old) }
-    ensures { Put text.old start (block line_of kind own count table.now at) text.new result }
+}
+
+fn rows_of(counts: Counts, kind: LineKind) -> Rows
+    requires { Bounded counts }
+    ensures { result ≡ rows_of counts kind }
 {
+    match kind {
+        LineKind::Input => Rows {
+            kind,
+            own: 2,
+            count: counts.inputs,
+            at: 0,
+        },
+        LineKind::Latch => Rows {
+            kind,
+            own: counts.first_latch(),
+            count: counts.latches,
+            at: 0,
+        },
+        LineKind::Lamp => Rows {
+            kind,
+            own: 0,
+            count: counts.literals(),
+            at: counts.literals_at(),
+        },
+        LineKind::Gate => Rows {
+            kind,
+            own: counts.first_gate(),
+            count: counts.gates,
+            at: counts.gates_at(),
+        },
+    }
+}
+
+fn put_rows<F: Form>(text: &mut [u8], start: usize, rows: Rows, table: &[u16]) -> usize
+    requires { Lines rows table.now × (start + length (block F.each rows table.now) ≤ length text.old) }
+    ensures { Put text.old start (block F.each rows table.now) text.new result }
+{
+    let wide = rows.kind.words();
     let mut end = start;
-    let mut due = own;
-    let mut word = at;
-    for i in 0..count {
-        let line = written_line(kind, due, table, word);
-        end = put_line(text, end, line);
-        due += 2;
-        word += line.words;
+    for i in 0..rows.count {
+        let own = rows.own + 2 * i;
+        end = F::put_row(text, end, rows.kind, own, table, rows.at + i * wide);
     }
     end
 }
 
-// How many counts stand behind A: B and C only up to the last that is not 0.
-fn further_counts(bads: usize, constraints: usize) -> usize
-    ensures { (gates : ℕ) → and_more result gates bads constraints ≡ gates ∷ further_numbers bads constraints }
-{
-    if constraints != 0 {
-        return 2;
-    }
-    if bads != 0 {
-        return 1;
-    }
-    0
-}
-
-// A, and those behind it.
+// A, then B and C up to the last that is not 0.
 fn last_counts(counts: Counts) -> LineNumbers
     requires { Bounded counts }
     ensures { LastCounts counts result }
 {
-    LineNumbers {
-        more: further_counts(counts.bads, counts.constraints),
-        first: counts.gates,
-        second: counts.bads,
-        third: counts.constraints,
-        words: 0,
+    if counts.constraints != 0 {
+        return LineNumbers::Three(counts.gates, counts.bads, counts.constraints);
     }
+    if counts.bads != 0 {
+        return LineNumbers::Two(counts.gates, counts.bads);
+    }
+    LineNumbers::One(counts.gates)
 }
 
 // I L O A, B and C where they are written, and the newline.
@@ -188,58 +210,25 @@ fn put_counts(text: &mut [u8], at: usize, counts: Counts) -> usize
 }
 
 // Then M, the counts and a newline.
-pub fn put_first_line(text: &mut [u8], magic: &[u8; 4], counts: Counts) -> usize
-    requires { (length magic.now ≡ 4) × Bounded counts × (4 + length (line_text (head_numbers counts)) ≤ length text.old) }
+fn put_first_line(text: &mut [u8], magic: &[u8; 4], counts: Counts) -> usize
+    requires { Bounded counts × (4 + length (line_text (head_numbers counts)) ≤ length text.old) }
     ensures { Put text.old 0 (magic.now ++ line_text (head_numbers counts)) text.new result }
 {
     let variables = put_magic(text, magic);
-    let inputs = putting::put_word(
-        text,
-        variables,
-        counts.inputs + counts.latches + counts.gates,
-        32,
-    );
+    let inputs = putting::put_word(text, variables, counts.variables(), 32);
     put_counts(text, inputs, counts)
 }
 
-fn put_header(text: &mut [u8], counts: Counts) -> usize
-    requires { Bounded counts × (length (plain_magic ++ line_text (head_numbers counts)) ≤ length text.old) }
-    ensures { Put text.old 0 (plain_magic ++ line_text (head_numbers counts)) text.new result }
+// Then the rows of each input, latch, lamp, bad state, constraint and gate, in that order.
+fn put_text<F: Form>(text: &mut [u8], magic: &[u8; 4], counts: Counts, table: &[u16]) -> usize
+    requires { Writable counts table.now × (length (write_opened magic.now F.each counts table.now) ≤ length text.old) }
+    ensures { Put text.old 0 (write_opened magic.now F.each counts table.now) text.new result }
 {
-    let magic = MAGIC;
-    put_first_line(text, &magic, counts)
-}
-
-// Then one line for each input, latch, lamp, bad state, constraint and gate, in that order.
-fn put_text(text: &mut [u8], counts: Counts, table: &[u16]) -> usize
-    requires { Writable counts table.now (write_text counts table.now) (length text.old) }
-    ensures { Put text.old 0 (write_text counts table.now) text.new result }
-{
-    let latch = 2 + 2 * counts.inputs;
-    let gate = latch + 2 * counts.latches;
-    let lamp_words = circuit::literals_at(counts);
-    let gate_words = circuit::gates_at(counts);
-    let inputs = put_header(text, counts);
-    let latches = put_lines(text, inputs, INPUT_LINE, 2, counts.inputs, table, 0);
-    let lamps = put_lines(text, latches, LATCH_LINE, latch, counts.latches, table, 0);
-    let gates = put_lines(
-        text,
-        lamps,
-        LAMP_LINE,
-        0,
-        circuit::literals(counts),
-        table,
-        lamp_words,
-    );
-    put_lines(
-        text,
-        gates,
-        GATE_LINE,
-        gate,
-        counts.gates,
-        table,
-        gate_words,
-    )
+    let inputs = put_first_line(text, magic, counts);
+    let latches = put_rows::<F>(text, inputs, rows_of(counts, LineKind::Input), table);
+    let lamps = put_rows::<F>(text, latches, rows_of(counts, LineKind::Latch), table);
+    let gates = put_rows::<F>(text, lamps, rows_of(counts, LineKind::Lamp), table);
+    put_rows::<F>(text, gates, rows_of(counts, LineKind::Gate), table)
 }
 
 // ---- the same, counted before the first byte is written
@@ -264,97 +253,72 @@ pub fn line_length(line: LineNumbers) -> usize
     requires { Small line }
     ensures { result ≡ length (line_text (line_numbers line)) }
 {
-    let first = digits(line.first) + 1;
-    if line.more == 0 {
-        return first;
+    match line {
+        LineNumbers::One(first) => digits(first) + 1,
+        LineNumbers::Two(first, second) => digits(first) + digits(second) + 2,
+        LineNumbers::Three(first, second, third) => {
+            digits(first) + digits(second) + digits(third) + 3
+        }
     }
-    let second = first + digits(line.second) + 1;
-    if line.more == 1 {
-        return second;
-    }
-    second + digits(line.third) + 1
 }
 
-fn count_lines(start: usize, kind: u8, own: usize, count: usize, table: &[u16], at: usize) -> usize
-    requires { Lines kind own count table.now at × (start + length (block line_of kind own count table.now at) ≤ 60000) }
-    ensures { result ≡ start + length (block line_of kind own count table.now at) }
+fn count_rows<F: Form>(start: usize, rows: Rows, table: &[u16]) -> usize
+    requires { Lines rows table.now × (start + length (block F.each rows table.now) ≤ 60000) }
+    ensures { result ≡ start + length (block F.each rows table.now) }
 {
+    let wide = rows.kind.words();
     let mut end = start;
-    let mut due = own;
-    let mut word = at;
-    for i in 0..count {
-        let line = written_line(kind, due, table, word);
-        end += line_length(line);
-        due += 2;
-        word += line.words;
+    for i in 0..rows.count {
+        let own = rows.own + 2 * i;
+        end += F::row_length(rows.kind, own, table, rows.at + i * wide);
     }
     end
 }
 
 // The four bytes, the numbers, and a byte behind each.
-pub fn header_length(counts: Counts) -> usize
+fn header_length(counts: Counts) -> usize
     requires { Bounded counts }
     ensures { result ≡ 4 + length (line_text (head_numbers counts)) }
 {
-    let variables = digits(counts.inputs + counts.latches + counts.gates);
+    let variables = digits(counts.variables());
     let inputs = digits(counts.inputs);
     let latches = digits(counts.latches);
     let lamps = digits(counts.lamps);
     8 + variables + inputs + latches + lamps + line_length(last_counts(counts))
 }
 
-fn text_length(counts: Counts, table: &[u16]) -> usize
-    requires { Writable counts table.now (write_text counts table.now) 60000 }
-    ensures { result ≡ length (write_text counts table.now) }
+fn text_length<F: Form>(counts: Counts, table: &[u16]) -> usize
+    requires { Writable counts table.now × (4 + length (line_text (head_numbers counts)) + length (write_rows F.each (kinds counts) table.now) ≤ 60000) }
+    ensures { result ≡ 4 + length (line_text (head_numbers counts)) + length (write_rows F.each (kinds counts) table.now) }
 {
-    let latch = 2 + 2 * counts.inputs;
-    let gate = latch + 2 * counts.latches;
-    let lamp_words = circuit::literals_at(counts);
-    let gate_words = circuit::gates_at(counts);
     let inputs = header_length(counts);
-    let latches = count_lines(inputs, INPUT_LINE, 2, counts.inputs, table, 0);
-    let lamps = count_lines(latches, LATCH_LINE, latch, counts.latches, table, 0);
-    let gates = count_lines(
-        lamps,
-        LAMP_LINE,
-        0,
-        circuit::literals(counts),
-        table,
-        lamp_words,
-    );
-    count_lines(gates, GATE_LINE, gate, counts.gates, table, gate_words)
+    let latches = count_rows::<F>(inputs, rows_of(counts, LineKind::Input), table);
+    let lamps = count_rows::<F>(latches, rows_of(counts, LineKind::Latch), table);
+    let gates = count_rows::<F>(lamps, rows_of(counts, LineKind::Lamp), table);
+    count_rows::<F>(gates, rows_of(counts, LineKind::Gate), table)
 }
 
 // ---- the call
 
-// The writer's number, and the count of bytes written.
-#[repr(C)]
-#[derive(Clone, Copy)]
-pub struct WriteAnswer {
-    pub number: u32,
-    pub bytes: usize,
+// A circuit in a form that these four bytes open, and how many bytes it has. Writer: 3, 10 for the table, 11, 10 for the bytes.
+pub fn write_form<F: Form>(
+    counts: Counts,
+    table: &[u16],
+    text: &mut [u8],
+    magic: &[u8; 4],
+) -> Result<usize, Refusal>
+    requires { 0 ≡ refusal (circuit_tests counts table.now) → length (write_opened magic.now F.each counts table.now) ≤ 60000 }
+    ensures { WrittenBy counts table.now (write_opened magic.now F.each counts table.now) text.old (answered result) (answer_or 0 result) text.new }
+{
+    table::circuit_refusal(counts, table)?;
+    if text.len() < text_length::<F>(counts, table) {
+        return Err(Refusal::TooShort);
+    }
+    Ok(put_text::<F>(text, magic, counts, table))
 }
 
-// Writer: 3, 10 for the table, 11, 10 for the text.
-pub fn write(counts: Counts, table: &[u16], text: &mut [u8]) -> WriteAnswer
-    ensures { Writing counts table.now text.old result.number result.bytes text.new }
+pub fn write(counts: Counts, table: &[u16], text: &mut [u8]) -> Result<usize, Refusal>
+    ensures { Writing counts table.now text.old (answered result) (answer_or 0 result) text.new }
 {
-    let number = table::circuit_refusal(counts, table);
-    if number != 0 {
-        return WriteAnswer {
-            number: number,
-            bytes: 0,
-        };
-    }
-    if text.len() < text_length(counts, table) {
-        return WriteAnswer {
-            number: 10,
-            bytes: 0,
-        };
-    }
-    let bytes = put_text(text, counts, table);
-    WriteAnswer {
-        number: 0, // written
-        bytes: bytes,
-    }
+    write_form::<Plain>(counts, table, text, &MAGIC)
 }

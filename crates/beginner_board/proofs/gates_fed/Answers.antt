@@ -1,8 +1,5 @@
-use Rattle.three.proofs.Loops.{tried_first, tried_next, tried_fails, tried_all}
+use Rattle.three.proofs.Loops.{tried_next, tried_fails, tried_all}
 use Rattle.beginner_board.proofs.gates_fed.Goals as goal
-
-pub loop-i-init : goal.loop-i-init
-loop-i-init c = tried_first _ _
 
 pub returns-then-not-well_fed : goal.returns-then-not-well_fed
 returns-then-not-well_fed c = tried_fails _ _ c.loop-i-test.true c.well_fed.ensures c.if-not-well_fed.true

@@ -1,11 +1,8 @@
 use mathlib.Core.Path.{refl}
 use borrow.Author.Tests.{lt-leb, le-leb}
-use Rattle.three.proofs.Loops.{tried_first, tried_next, tried_fails, tried_all}
+use Rattle.three.proofs.Loops.{tried_next, tried_fails, tried_all}
 use Rattle.beginners.specs.Rules.{varies}
 use Rattle.beginner_board.proofs.literals_vary.Goals as goal
-
-pub loop-i-init : goal.loop-i-init
-loop-i-init c = tried_first _ _
 
 pub returns-then-table-at-lt2 : goal.returns-then-table-at-lt2
 unfolding varies

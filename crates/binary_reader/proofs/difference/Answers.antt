@@ -18,11 +18,5 @@ returns-then-high-eq0 c = found_zero _ _ (omega arith) (omega arith) (omega arit
 pub returns-then-high-ge128 : goal.returns-then-high-ge128
 returns-then-high-ge128 c = found_long _ _ (omega arith) (omega arith) (omega arith) (omega arith)
 
-pub overflow_cast-result-2 : goal.overflow_cast-result-2
-overflow_cast-result-2 c = omega (arith, (c.shared_slice_known-1.given c.args.at).fits)
-
-pub overflow_add-result-2 : goal.overflow_add-result-2
-overflow_add-result-2 c = omega (arith, (c.shared_slice_known-1.given c.args.at).fits)
-
 pub returns : goal.returns
 returns c = found_two _ _ (omega arith) (omega arith) (omega arith) (λ z. omega arith) (omega arith)

@@ -8,21 +8,21 @@ use Rattle.binary_reader.proofs.fill.Goals as goal
 pub fill_lines-lamps-requires : goal.fill_lines-lamps-requires
 fill_lines-lamps-requires c =
     let pre = c.requires in
-    (omega arith, omega arith, omega arith, latches_due pre.0 pre.1 inputs_filled)
+    (tt, omega arith, rw c.first_latch.ensures (latches_due pre.0 pre.1 inputs_filled))
 
 pub fill_lines-gates-requires : goal.fill_lines-gates-requires
 fill_lines-gates-requires c =
     let pre = c.requires in
-    (omega arith, omega arith, omega arith, rw c.literals.ensures (lamps_due pre.0 pre.1 inputs_filled c.fill_lines-lamps.ensures))
+    (tt, omega arith, rw c.literals.ensures (lamps_due pre.0 pre.1 inputs_filled (rw c.first_latch.ensures at c.fill_lines-lamps.ensures)))
 
 pub fill_gates-requires : goal.fill_gates-requires
 unfolding coded
 fill_gates-requires c =
     let pre = c.requires in
-    (omega arith, gates_due pre.0 pre.1 inputs_filled c.fill_lines-lamps.ensures (rw c.literals.ensures at c.fill_lines-gates.ensures))
+    (omega arith, rw c.first_gate.ensures (gates_due pre.0 pre.1 inputs_filled (rw c.first_latch.ensures at c.fill_lines-lamps.ensures) (rw c.literals.ensures at c.fill_lines-gates.ensures)))
 
 pub returns : goal.returns
 unfolding coded
 returns c =
     let pre = c.requires in
-    filled_whole pre.0 pre.1 inputs_filled c.fill_lines-lamps.ensures (rw c.literals.ensures at c.fill_lines-gates.ensures) no_words c.fill_gates.ensures
+    filled_whole pre.0 pre.1 inputs_filled (rw c.first_latch.ensures at c.fill_lines-lamps.ensures) (rw c.literals.ensures at c.fill_lines-gates.ensures) no_words (rw c.first_gate.ensures at c.fill_gates.ensures)

@@ -2,11 +2,11 @@
 use Rattle.binary_reader.proofs.Finding.{gate_none, gate_half, gate_both}
 use Rattle.binary_reader.proofs.gate_differences.Goals as goal
 
-pub returns-in_default : goal.returns-in_default
-returns-in_default c = gate_none _ _ c.difference-one.ensures c.in_default.is
+pub returns-in_err-first : goal.returns-in_err-first
+returns-in_err-first c = rw c.from_residual.ensures (gate_none _ _ c.in_err-first.ensures)
 
-pub returns-in_default-two : goal.returns-in_default-two
-returns-in_default-two c = gate_half _ _ c.difference-one.ensures c.in-Value.is c.difference-two.ensures c.in_default-two.is
+pub returns-in_err-second : goal.returns-in_err-second
+returns-in_err-second c = rw c.from_residual-in_err-second.ensures (gate_half _ _ c.in_ok-first.ensures c.in_err-second.ensures)
 
 pub returns : goal.returns
-returns c = gate_both _ _ c.difference-one.ensures c.in-Value.is c.difference-two.ensures c.in-Value-two.is
+returns c = gate_both _ _ c.in_ok-first.ensures c.in_ok-second.ensures

@@ -2,31 +2,23 @@
 use mathlib.Core.Path.{refl}
 use native.Mathlib.Omega.{arith}
 use Rattle.binary.specs.Binary.{circuit_rows, read_binary}
-use Rattle.reader.proofs.Answering.{answers_refused, starts, answers_short, fillable, answers_filled}
+use Rattle.reader.proofs.Answering.{answers_refused, answers_short, fillable, answers_filled}
+use Rattle.reader.proofs.Bodies.{returned}
 use Rattle.binary_reader.proofs.Filling.{rows_whole}
 use Rattle.binary_reader.proofs.read_binary.Goals as goal
 
-pub returns-in-Refused : goal.returns-in-Refused
+pub returns-in_err-body : goal.returns-in_err-body
 unfolding read_binary
-returns-in-Refused c =
-    answers_refused _ _ circuit_rows _ _ refl c.judge-judgement.ensures c.in-Refused.is c.refused.ensures.0 c.refused.ensures.1
-
-pub table_length-requires : goal.table_length-requires
-table_length-requires c = (starts c.judge-judgement.ensures c.in-Body.is).bounded
+returns-in_err-body c = rw (returned _ _ c.from_residual.ensures.1) (answers_refused _ _ circuit_rows _ _ refl _ c.in_err-body.ensures)
 
 pub returns-then-table-table_length : goal.returns-then-table-table_length
 unfolding read_binary
-returns-then-table-table_length c =
-    answers_short _ _ circuit_rows _ _ refl c.judge-judgement.ensures c.in-Body.is c.refused-then-table-table_length.ensures.0 c.refused-then-table-table_length.ensures.1 (omega arith)
+returns-then-table-table_length c = answers_short _ _ circuit_rows _ _ refl c.in_ok-body.ensures (omega arith)
 
 pub fill-requires : goal.fill-requires
 unfolding read_binary
-fill-requires c = (
-  (starts c.judge-judgement.ensures c.in-Body.is).bounded,
-  fillable _ _ circuit_rows _ _ refl c.judge-judgement.ensures c.in-Body.is (omega arith) (rows_whole _),
-)
+fill-requires c = (c.in_ok-body.ensures.bounded, fillable _ _ circuit_rows _ _ refl c.in_ok-body.ensures (omega arith) (rows_whole _))
 
-pub returns-in-Body : goal.returns-in-Body
+pub returns : goal.returns
 unfolding read_binary
-returns-in-Body c =
-    answers_filled _ _ circuit_rows _ _ refl c.judge-judgement.ensures c.in-Body.is (omega arith) c.fill.ensures
+returns c = answers_filled _ _ circuit_rows _ _ refl c.in_ok-body.ensures (omega arith) c.fill.ensures

@@ -1,24 +1,21 @@
 -- `chained::chain_refusal` meets its contract: its tests are made in the order of the list. Assumes nothing.
-use mathlib.Core.Path.{sym, ◌∙◌}
 use native.Mathlib.Omega.{arith}
-use Rattle.circuit.proofs.Legality.{board_legal}
+use Rattle.circuit.proofs.Answering.{handed_back, numbered}
 use Rattle.chained.proofs.Refusing.{board_refuses, interval_over, cubes_short, cubes_over, chain_passes}
 use Rattle.chained.proofs.chain_refusal.Goals as goal
 
-pub returns-then-refused-ne0 : goal.returns-then-refused-ne0
-returns-then-refused-ne0 c = board_refuses _ _ _ _ _ c.board_refusal-refused.ensures c.if-refused-ne0.true
+pub returns-in_err-board-clause-number : goal.returns-in_err-board-clause-number
+returns-in_err-board-clause-number c =
+    handed_back _ _ c.from_residual.ensures.1 (board_refuses _ _ _ _ _ c.in_err-board.ensures.number (numbered _))
 
-pub returns-then-w-gt-MOST_INTERVAL : goal.returns-then-w-gt-MOST_INTERVAL
-returns-then-w-gt-MOST_INTERVAL c = interval_over _ _ _ _ (sym c.if-refused-ne0.false ∙ c.board_refusal-refused.ensures) (omega arith)
+pub returns-then-w-gt-MOST_INTERVAL-clause-number : goal.returns-then-w-gt-MOST_INTERVAL-clause-number
+returns-then-w-gt-MOST_INTERVAL-clause-number c = interval_over _ _ _ _ c.in_ok-board.ensures.number (omega arith)
 
-pub cube_bytes-requires : goal.cube_bytes-requires
-cube_bytes-requires c = (board_legal _ _ (sym c.if-refused-ne0.false ∙ c.board_refusal-refused.ensures)).bounded.latches
+pub returns-then-cubes-cube_bytes-clause-number : goal.returns-then-cubes-cube_bytes-clause-number
+returns-then-cubes-cube_bytes-clause-number c = cubes_short _ _ _ _ c.in_ok-board.ensures.number (omega arith) (omega arith)
 
-pub returns-then-cubes-cube_bytes : goal.returns-then-cubes-cube_bytes
-returns-then-cubes-cube_bytes c = cubes_short _ _ _ _ (sym c.if-refused-ne0.false ∙ c.board_refusal-refused.ensures) (omega arith) (omega arith)
+pub returns-then-cubes-gt-MOST_CUBE_BYTES-clause-number : goal.returns-then-cubes-gt-MOST_CUBE_BYTES-clause-number
+returns-then-cubes-gt-MOST_CUBE_BYTES-clause-number c = cubes_over _ _ _ _ c.in_ok-board.ensures.number (omega arith) (omega arith) (omega arith)
 
-pub returns-then-cubes-gt-MOST_CUBE_BYTES : goal.returns-then-cubes-gt-MOST_CUBE_BYTES
-returns-then-cubes-gt-MOST_CUBE_BYTES c = cubes_over _ _ _ _ (sym c.if-refused-ne0.false ∙ c.board_refusal-refused.ensures) (omega arith) (omega arith) (omega arith)
-
-pub returns : goal.returns
-returns c = chain_passes _ _ _ _ (sym c.if-refused-ne0.false ∙ c.board_refusal-refused.ensures) (omega arith) (omega arith) (omega arith)
+pub returns-clause-number : goal.returns-clause-number
+returns-clause-number c = chain_passes _ _ _ _ c.in_ok-board.ensures.number (omega arith) (omega arith) (omega arith)

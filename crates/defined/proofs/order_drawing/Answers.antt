@@ -3,33 +3,26 @@ use mathlib.Core.Path.{refl}
 use Prim.Native.Nat.{ℕ}
 use native.Mathlib.Omega.{arith}
 use lib.ListN.{length-replicate, get_or-replicate}
-use Rattle.defined.proofs.Defining.{left_readable, right_readable}
 use Rattle.defined.proofs.Ordering.{operands, depths_ready, loops_judged, order_judged}
 use Rattle.defined.proofs.order_drawing.Goals as goal
 
-pub find_sources-requires : goal.find_sources-requires
-find_sources-requires c =
+pub invariant_of-gates : goal.invariant_of-gates
+invariant_of-gates c =
     let pre = c.requires in
-    (rw c.gates_at-gates.ensures (left_readable _ _ pre.0), omega (arith, pre.0.bounded.gates), length-replicate {A = ℕ} 4096 0)
-
-pub find_sources-requires-2 : goal.find_sources-requires-2
-find_sources-requires-2 c =
-    let pre = c.requires in
-    (rw c.gates_at-gates.ensures (right_readable _ _ pre.0), omega (arith, pre.0.bounded.gates), length-replicate {A = ℕ} 4096 0)
+    let gates = c.gates_at-gates_at.ensures in
+    let ls = rw gates at c.find_sources.ensures in
+    let rs = rw gates at c.find_sources-2.ensures in
+    record { operands = operands _ _ _ _ refl _ _ ls.1 rs.1 pre.0 pre.1 ls.0 rs.0 }
 
 pub find_depths-requires : goal.find_depths-requires
 find_depths-requires c =
     let pre = c.requires in
-    let gates = c.gates_at-gates.ensures in
-    let ls = rw gates at c.find_sources.ensures in
-    let rs = rw gates at c.find_sources-2.ensures in
-    let ops = operands _ _ _ _ refl _ _ ls.1 rs.1 pre.0 pre.1 ls.0 rs.0 in
-    (ops, length-replicate {A = ℕ} 4096 0, λ i h. get_or-replicate {A = ℕ} 4096 i 0 0 (omega (arith, pre.0.bounded.gates, h)))
+    (length-replicate {A = ℕ} 4096 0, λ i h. get_or-replicate {A = ℕ} 4096 i 0 0 (omega (arith, pre.0.bounded.gates, h)))
 
 pub returns-then-not-find_depths : goal.returns-then-not-find_depths
 returns-then-not-find_depths c =
     let pre = c.requires in
-    let gates = c.gates_at-gates.ensures in
+    let gates = c.gates_at-gates_at.ensures in
     let ls = rw gates at c.find_sources.ensures in
     let rs = rw gates at c.find_sources-2.ensures in
     let ops = operands _ _ _ _ refl _ _ ls.1 rs.1 pre.0 pre.1 ls.0 rs.0 in
@@ -38,7 +31,7 @@ returns-then-not-find_depths c =
 pub order_gates-requires : goal.order_gates-requires
 order_gates-requires c =
     let pre = c.requires in
-    let gates = c.gates_at-gates.ensures in
+    let gates = c.gates_at-gates_at.ensures in
     let ls = rw gates at c.find_sources.ensures in
     let rs = rw gates at c.find_sources-2.ensures in
     let ops = operands _ _ _ _ refl _ _ ls.1 rs.1 pre.0 pre.1 ls.0 rs.0 in
@@ -47,7 +40,7 @@ order_gates-requires c =
 pub returns : goal.returns
 returns c =
     let pre = c.requires in
-    let gates = c.gates_at-gates.ensures in
+    let gates = c.gates_at-gates_at.ensures in
     let ls = rw gates at c.find_sources.ensures in
     let rs = rw gates at c.find_sources-2.ensures in
     let ops = operands _ _ _ _ refl _ _ ls.1 rs.1 pre.0 pre.1 ls.0 rs.0 in

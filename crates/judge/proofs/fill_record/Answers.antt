@@ -1,21 +1,25 @@
-use lib.ListN.{length-replicate}
-use Rattle.three.proofs.Loops.{stored_first}
-use Rattle.three.proofs.Filling.{fill_next, fill_last}
+-- `judge::fill_record` meets its contract: each field is given the value. Assumes nothing.
+use mathlib.Core.Path.{◌≡◌}
+use lib.ListN.{replicate, length-replicate}
 use native.Mathlib.Omega.{arith}
+use borrow.Author.Rules.{rules}
+use Rattle.three.specs.Value.{decode}
+use Rattle.judge.proofs.Constant.{filled}
 use Rattle.judge.proofs.fill_record.Goals as goal
 
-pub loop-k-init : goal.loop-k-init
-loop-k-init c = stored_first _ _ _ _
-
-pub filled_byte-requires : goal.filled_byte-requires
-filled_byte-requires c = (c.requires.0, omega (arith, c.requires.1))
-
-pub loop-k-preserved : goal.loop-k-preserved
-loop-k-preserved c =
-    fill_next _ _ (length-replicate _ _) _ _ _ _ c.requires.2 c.loop-k.invariant (omega arith) c.filled_byte.ensures
-
-pub shape_of-out : goal.shape_of-out
-shape_of-out c = c.loop-k.invariant.long
+pub store_fields-requires : goal.store_fields-requires
+store_fields-requires c = (
+  record {
+    calls = λ i h. search rules;
+    codes = λ i r h e. let is : r ≡ c.args.value = search rules in omega arith;
+  },
+  omega arith,
+  c.requires.2,
+)
 
 pub returns : goal.returns
-returns c = fill_last _ _ (length-replicate _ _) _ _ _ c.loop-k.invariant (omega arith)
+returns c =
+    c.store_fields.ensures (replicate c.args.fields (decode c.args.value)) (record {
+      sized = length-replicate _ _;
+      gives = λ i r h e. let is : r ≡ c.args.value = search rules in filled _ _ _ c.requires.0 h is;
+    })

@@ -4,4 +4,4 @@ use Rattle.judged.proofs.Walking.{follows}
 use Rattle.judged.proofs.all_go_on.Given as goal
 
 abbrev pub invariant-loop-k : goal.invariant-loop-k
-invariant-loop-k l = Passing l.counts l.table l.len l.n l.cubes (follows l.counts l.table l.n l.j l.cubes) l.initial.verdict l.verdict l.values l.watched l.k
+invariant-loop-k l = Passing l.board.counts l.board.table.now l.len l.n l.cubes (follows l.board.counts l.board.table.now l.n l.j l.cubes) l.initial.verdict l.verdict l.values.bytes l.watched l.k

@@ -1,16 +1,16 @@
--- `lines::digit_at` meets its contract: its tests are those of `is_digit`. Assumes nothing.
-use native.Mathlib.Omega.{arith}
-use Rattle.lines.proofs.Numbers.{digit_beyond, digit_below, digit_above, digit_given}
+-- `lines::digit_at` meets its contract: a byte, and its test. Assumes nothing.
+use Rattle.lines.proofs.Numbers.{digit_beyond, digit_not, digit_given}
 use Rattle.lines.proofs.digit_at.Goals as goal
 
-pub returns-then-at-text : goal.returns-then-at-text
-returns-then-at-text c = digit_beyond _ _ c.if-at-text.true
+pub returns-in_err-byte : goal.returns-in_err-byte
+returns-in_err-byte c = rw c.from_residual.ensures (digit_beyond _ _ c.in_err-byte.ensures.lookup.3)
 
-pub returns-then-b-lt48 : goal.returns-then-b-lt48
-returns-then-b-lt48 c = digit_below _ _ (omega arith) (omega arith)
-
-pub returns-then-b-gt57 : goal.returns-then-b-gt57
-returns-then-b-gt57 c = digit_above _ _ (omega arith) (omega arith)
+pub returns-then-not-is_ascii_digit : goal.returns-then-not-is_ascii_digit
+returns-then-not-is_ascii_digit c =
+    let byte = c.in_ok-byte.ensures.lookup.3 in
+    digit_not _ _ byte.0 (byte.1 0) c.is_ascii_digit.ensures.value c.if-not-is_ascii_digit.true
 
 pub returns : goal.returns
-returns c = digit_given _ _ (omega arith) (omega arith) (omega arith)
+returns c =
+    let byte = c.in_ok-byte.ensures.lookup.3 in
+    rw c.from.ensures (digit_given _ _ byte.0 (byte.1 0) c.is_ascii_digit.ensures.value c.if-not-is_ascii_digit.false)

@@ -2,24 +2,20 @@
 use Rattle.lines.proofs.Endings.{number_within, in_line_none, in_line_last, in_line_end, in_line_more, in_line_other}
 use Rattle.lines.proofs.number_in_line.Goals as goal
 
-pub returns-in_default : goal.returns-in_default
-returns-in_default c = in_line_none _ _ _ c.number-found.ensures c.in_default.is
+pub returns-in_err-found : goal.returns-in_err-found
+returns-in_err-found c = rw c.from_residual.ensures (in_line_none _ _ _ c.in_err-found.ensures)
 
-pub ending_at-length-requires : goal.ending_at-length-requires
-ending_at-length-requires c = number_within c.number-found.ensures c.in-Value.is
+pub ending_at-requires : goal.ending_at-requires
+ending_at-requires c = number_within c.in_ok-found.ensures
 
-pub returns-then-length-ne0 : goal.returns-then-length-ne0
-returns-then-length-ne0 c =
-    in_line_last _ _ _ c.number-found.ensures c.in-Value.is c.ending_at-length.ensures c.if-length-ne0.true
+pub returns-in-Some : goal.returns-in-Some
+returns-in-Some c = in_line_last _ _ _ c.in_ok-found.ensures c.in-Some.ensures
 
-pub returns-then-end-text : goal.returns-then-end-text
-returns-then-end-text c =
-    in_line_end _ _ _ c.number-found.ensures c.in-Value.is c.ending_at-length.ensures c.if-length-ne0.false c.if-end-text.true
+pub returns-then-found-text : goal.returns-then-found-text
+returns-then-found-text c = in_line_end _ _ _ c.in_ok-found.ensures c.in_default.ensures c.if-found-text.true
 
-pub returns-then-text-end-eq32 : goal.returns-then-text-end-eq32
-returns-then-text-end-eq32 c =
-    in_line_more _ _ _ c.number-found.ensures c.in-Value.is c.ending_at-length.ensures c.if-length-ne0.false c.if-end-text.false c.if-text-end-eq32.true
+pub returns-then-text-found-eq32 : goal.returns-then-text-found-eq32
+returns-then-text-found-eq32 c = in_line_more _ _ _ c.in_ok-found.ensures c.in_default.ensures c.if-found-text.false c.if-text-found-eq32.true
 
 pub returns : goal.returns
-returns c =
-    in_line_other _ _ _ c.number-found.ensures c.in-Value.is c.ending_at-length.ensures c.if-length-ne0.false c.if-end-text.false c.if-text-end-eq32.false
+returns c = in_line_other _ _ _ c.in_ok-found.ensures c.in_default.ensures c.if-found-text.false c.if-text-found-eq32.false

@@ -5,6 +5,6 @@ use Rattle.listing.specs.ListingInCode.{shown_by, worded, stand}
 use Rattle.listing.proofs.Turning.{Turns}
 use Rattle.listing.proofs.list_lines.Given as goal
 
-abbrev pub invariant-loop-i : goal.invariant-loop-i
-invariant-loop-i l =
-    Turns (ending_bytes l.ending) l.text l.most (coded l.kind) (shown_by (coded l.kind 0)) (worded (coded l.kind 0)) l.count (stand l.initial.at l.initial.line l.initial.word l.initial.owns l.initial.words) (stand l.at l.line l.word l.owns l.words) l.i
+abbrev pub invariant-loop : goal.invariant-loop
+invariant-loop l =
+    Turns (ending_bytes l.ending) l.text l.most (coded l.kind) (shown_by (coded l.kind 0)) (worded (coded l.kind 0)) l.count (stand l.initial.place.at l.initial.place.line l.initial.place.word l.initial.owns l.initial.words) (stand l.place.at l.place.line l.place.word l.owns l.words) l.counter

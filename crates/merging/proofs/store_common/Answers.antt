@@ -7,7 +7,6 @@ use lib.ListN.{length, get_or}
 use Rattle.three.specs.Cube.{merged}
 use Rattle.three.specs.Record.{bytes_for, byte_at, unpack}
 use Rattle.three.specs.RecordInCode.{IsRecord}
-use Rattle.three.proofs.Loops.{stored_first}
 use Rattle.three.proofs.Filling.{fill_next, fill_last}
 use Rattle.three.proofs.Pack.{length_unpack, get_or_pack}
 use Rattle.three.proofs.Merge.{length_merged}
@@ -21,17 +20,11 @@ byte : (f : ℕ) (a b : List ℕ) (k : ℕ) → k < bytes_for f → IsRecord f a
     → bit_and (get_or a k 0) (get_or b k 0) ≡ byte_at (merged (unpack f a) (unpack f b)) k
 byte f a b k h ra rb small_a small_b = and_record f k h a b ra rb small_a small_b ∙ get_or_pack (merged (unpack f a) (unpack f b)) k (rw (sized f a b) h)
 
-pub loop-k-init : goal.loop-k-init
-loop-k-init c = stored_first _ _ _ _
-
 pub loop-k-preserved : goal.loop-k-preserved
 loop-k-preserved c =
     let pre = c.requires in
     fill_next _ _ (sized _ _ _) _ _ _ _ pre.2 c.loop-k.invariant (omega arith)
-    (byte _ _ _ _ (omega arith) pre.0 pre.1 (λ i. (c.shared_slice_known-1.given i).fits) (λ i. (c.shared_slice_known-2-1.given i).fits))
-
-pub shape_of-merged : goal.shape_of-merged
-shape_of-merged c = c.loop-k.invariant.long
+    (byte _ _ _ _ (omega arith) pre.0 pre.1 (λ i. (c.type_inv.a i).fits) (λ i. (c.type_inv.b i).fits))
 
 pub returns : goal.returns
 returns c = fill_last _ _ (sized _ _ _) _ _ _ c.loop-k.invariant (omega arith)

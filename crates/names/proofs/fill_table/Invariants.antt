@@ -5,4 +5,4 @@ use Rattle.names.specs.Tabling.{table_by}
 use Rattle.names.proofs.fill_table.Given as goal
 
 abbrev pub invariant-loop-k : goal.invariant-loop-k
-invariant-loop-k l = Stored l.initial.table 0 (table_by l.counts l.words l.names l.order) (table_length l.counts) l.table l.k
+invariant-loop-k l = Stored l.initial.word-items 0 (table_by l.fn.counts l.words l.names l.order) (table_length l.fn.counts) l.word-items l.k

@@ -1,6 +1,4 @@
 -- `names::line_at` meets its contract. Assumes nothing.
-use mathlib.Core.Path.{ap, ◌∙◌}
-use Prim.Native.Nat.{ℕ, ◌+◌}
 use native.Mathlib.Omega.{arith}
 use Rattle.names.proofs.Marking.{line_of_leaf, line_of_gate, gate_line_small}
 use Rattle.names.proofs.line_at.Goals as goal
@@ -11,7 +9,7 @@ returns-then-r-leaves c = line_of_leaf _ _ _ c.if-r-leaves.true
 pub overflow_add-result : goal.overflow_add-result
 overflow_add-result c =
     let pre = c.requires in
-    omega (arith, gate_line_small _ _ _ _ _ _ pre.0 c.if-r-leaves.false pre.1 c.wide.ensures)
+    omega (arith, gate_line_small _ _ _ _ _ pre.0 c.if-r-leaves.false pre.1)
 
 pub returns : goal.returns
-returns c = ap (λ (n : ℕ). c.args.leaves + n) c.wide.ensures ∙ line_of_gate _ _ _ c.if-r-leaves.false
+returns c = line_of_gate _ _ _ c.if-r-leaves.false

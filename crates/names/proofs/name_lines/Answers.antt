@@ -1,5 +1,5 @@
-use mathlib.Core.Path.{◌∙◌}
-use Prim.Native.Nat.{ℕ, ◌+◌, ◌/◌}
+use mathlib.Core.Path.{refl, ◌∙◌}
+use Prim.Native.Nat.{ℕ, ◌+◌}
 use native.Mathlib.Omega.{arith}
 use lib.ListN.{length-set}
 use Rattle.names.proofs.Marking.{line_by_small, name_room, marked_first, marked_next, marked_last}
@@ -37,21 +37,21 @@ overflow_cast-names c =
 pub offset_bounds-names-v : goal.offset_bounds-names-v
 offset_bounds-names-v c =
     let pre = c.requires in
-    omega (arith, name_room _ _ _ _ _ _ _ pre.0 c.loop-r-test.true c.line_at-k.ensures c.own_literal-v.ensures)
+    omega (arith, name_room _ _ _ _ _ _ pre.0 c.loop-r-test.true c.line_at-k.ensures)
 
 pub bounds-names-v : goal.bounds-names-v
 bounds-names-v c =
     let pre = c.requires in
-    omega (arith, name_room _ _ _ _ _ _ _ pre.0 c.loop-r-test.true c.line_at-k.ensures c.own_literal-v.ensures)
+    omega (arith, name_room _ _ _ _ _ _ pre.0 c.loop-r-test.true c.line_at-k.ensures)
 
 pub loop-r-preserved : goal.loop-r-preserved
 loop-r-preserved c =
     let pre = c.requires in
     let s = c.loop-r.invariant in
-    let room = name_room _ _ _ _ _ _ _ pre.0 c.loop-r-test.true c.line_at-k.ensures c.own_literal-v.ensures in (
-      length-set {A = ℕ} c.loop-r.names (c.own_literal-v.result / 2) (c.loop-r.r + 1) ∙ s.0,
+    let room = name_room _ _ _ _ _ _ pre.0 c.loop-r-test.true c.line_at-k.ensures in (
+      length-set {A = ℕ} c.loop-r.names _ (c.loop-r.r + 1) ∙ s.0,
       omega arith,
-      λ d p o. marked_next d p _ _ _ _ o _ _ _ _ (s.2 d p o) c.loop-r-test.true c.line_at-k.ensures c.own_literal-v.ensures (omega (arith, s.0, room)),
+      λ d p o. marked_next d p _ _ _ _ o _ _ _ _ (s.2 d p o) c.loop-r-test.true c.line_at-k.ensures refl (omega (arith, s.0, room)),
     )
 
 pub returns : goal.returns

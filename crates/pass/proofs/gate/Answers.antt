@@ -5,7 +5,7 @@ use Rattle.three.proofs.Filling.{is_small, is_decoded}
 use Rattle.pass.proofs.gate.Goals as goal
 
 pub and3-requires : goal.and3-requires
-and3-requires c = (c.requires.0, is_small _ c.literal.ensures, is_small _ c.literal-2.ensures)
+and3-requires c = (is_small _ c.literal.ensures, is_small _ c.literal-2.ensures)
 
 pub returns : goal.returns
 returns c = c.and3.ensures ∙ ap₂ (λ x y. code (both x y)) (is_decoded _ c.literal.ensures) (is_decoded _ c.literal-2.ensures)

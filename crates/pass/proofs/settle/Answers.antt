@@ -5,5 +5,4 @@ use Rattle.pass.proofs.settle.Goals as goal
 
 pub returns : goal.returns
 returns c =
-    let pre = c.requires in
-    settle_begins _ _ pre.0 _ _ (length_unpack _ _) _ _ _ _ pre.3 c.put_variable.ensures c.load.ensures c.settle_state.ensures
+    settle_begins _ _ c.args.board.now.legal _ _ (length_unpack _ _) _ _ _ _ c.args.values.now.working c.put.ensures c.load.ensures c.settle_state.ensures

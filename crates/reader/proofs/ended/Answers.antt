@@ -1,4 +1,5 @@
 -- `reader::ended` meets its contract: its tests are those of `ends`. Assumes nothing.
+use mathlib.Core.Path.{◌∙◌}
 use native.Mathlib.Omega.{arith}
 use Rattle.reader.proofs.Bodies.{ended_last, ended_other, ended_comment}
 use Rattle.reader.proofs.ended.Goals as goal
@@ -10,4 +11,4 @@ pub returns-then-text-at-ne99 : goal.returns-then-text-at-ne99
 returns-then-text-at-ne99 c = ended_other _ _ _ (omega arith) c.if-text-at-ne99.true
 
 pub returns : goal.returns
-returns c = ended_comment _ _ _ (omega arith) c.if-text-at-ne99.false c.ending_at.ensures
+returns c = c.is_some.ensures ∙ ended_comment _ _ _ (omega arith) _ c.if-text-at-ne99.false c.ending_at.ensures

@@ -1,17 +1,12 @@
-use Rattle.reader.proofs.Bodies.{turns_first, turns_next, turns_stop, turns_last}
-use native.Mathlib.Omega.{arith}
+use Rattle.reader.proofs.Bodies.{returned, line_stopped, line_passed, turns_next, turns_stop, turns_last}
 use Rattle.reader.proofs.judge_lines.Goals as goal
 
-pub loop-i-init : goal.loop-i-init
-loop-i-init c = turns_first _ _ _ _ _ _ (omega arith)
-
-pub returns-then-judged-ne0 : goal.returns-then-judged-ne0
-returns-then-judged-ne0 c =
-    turns_stop _ _ _ _ _ _ c.loop-i.invariant c.loop-i-test.true c.judge_line-judged.ensures c.if-judged-ne0.true
+pub returns-in_err-line_refusal : goal.returns-in_err-line_refusal
+returns-in_err-line_refusal g c =
+    rw (returned _ _ c.from_residual.ensures.1) (turns_stop _ _ _ _ _ _ c.loop-i.invariant c.loop-i-test.true (line_stopped _ c.line-found.ensures c.in_err-line_refusal.ensures))
 
 pub loop-i-preserved : goal.loop-i-preserved
-loop-i-preserved c =
-    turns_next _ _ _ _ _ _ c.loop-i.invariant c.loop-i-test.true c.judge_line-judged.ensures c.if-judged-ne0.false
+loop-i-preserved g c = turns_next _ _ _ _ _ _ c.loop-i.invariant c.loop-i-test.true (line_passed _ c.line-found.ensures c.in_ok-line_refusal.ensures)
 
 pub returns : goal.returns
-returns c = turns_last _ _ _ _ _ _ c.loop-i.invariant c.loop-i-test.false
+returns g c = turns_last _ _ _ _ _ _ c.loop-i.invariant c.loop-i-test.false

@@ -2,5 +2,5 @@
 use Rattle.reasons.proofs.Lines.{begun_by}
 use Rattle.reasons.proofs.has_begun.Goals as goal
 
-pub returns : goal.returns
-returns c = begun_by _ c.if-begun.false _
+pub returns-else-begun : goal.returns-else-begun
+returns-else-begun c = begun_by _ c.if-begun.false _

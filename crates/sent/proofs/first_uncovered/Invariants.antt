@@ -5,4 +5,4 @@ use Rattle.sent.proofs.Passing.{covered_at}
 use Rattle.sent.proofs.first_uncovered.Given as goal
 
 abbrev pub invariant-loop-k : goal.invariant-loop-k
-invariant-loop-k l = Passing l.counts l.table l.len l.n l.cubes (covered_at l.counts l.table l.len l.n l.cubes) l.initial.verdict l.verdict l.values l.seen l.k
+invariant-loop-k l = Passing l.board.counts l.board.table.now l.len l.n l.cubes (covered_at l.board.counts l.board.table.now l.len l.n l.cubes) l.initial.verdict l.verdict l.values.bytes l.seen l.k

@@ -4,11 +4,10 @@ use Rattle.stored.proofs.Reaching.{state_settles, ready_again, blocked_reached}
 use Rattle.stored.proofs.Constraining.{free_of}
 use Rattle.stored.proofs.blocked.Goals as goal
 
-pub returns-then-counts-eq0 : goal.returns-then-counts-eq0
-returns-then-counts-eq0 c = (free_of c.args.counts _ c.if-counts-eq0.true _, c.requires.2)
+pub returns-then-board-eq0 : goal.returns-then-board-eq0
+returns-then-board-eq0 c = (free_of c.args.board.now.counts _ c.if-board-eq0.true _, c.requires.1)
 
 pub returns : goal.returns
 returns c =
-    let pre = c.requires in
-    let settled = state_settles _ _ _ _ _ pre.2 c.settle_state.ensures in
-    (blocked_reached _ _ pre.0 _ (length_unpack _ _) _ settled c.constraint_low.ensures, ready_again _ _ _ _ settled)
+    let settled = state_settles _ _ _ _ _ c.requires.1 c.settle_state.ensures in
+    (blocked_reached _ _ c.args.board.now.legal _ (length_unpack _ _) _ settled c.constraint_low.ensures, ready_again _ _ _ _ settled)

@@ -1,35 +1,19 @@
-use mathlib.Core.Path.{refl}
-use Rattle.three.proofs.Loops.{tried_first}
-use Rattle.stored.proofs.Constraining.{constraint_word, low_found, low_next, low_missing}
-use native.Mathlib.Omega.{arith}
+-- `stored::constraint_low` meets its contract: each constraint's literal is read in turn. Assumes nothing.
+use borrow.Author.Tests.{tests}
+use Rattle.std.proofs.Common.{rules}
+use Rattle.std.proofs.lemmas.Iterator.{cases_from_any, YieldsList-from_slice}
+use Rattle.std.proofs.lemmas.Iterator.Adapters.{serves_from_places}
+use Rattle.pass.specs.ValuesInCode.{values_of}
+use Rattle.stored.proofs.Constraining.{constraint_word, is_low, any_low}
 use Rattle.stored.proofs.constraint_low.Goals as goal
 
-pub constraints_at-first-requires : goal.constraints_at-first-requires
-constraints_at-first-requires c = c.requires.0.bounded
-
-pub loop-i-init : goal.loop-i-init
-loop-i-init c = tried_first _ _
-
-pub overflow_add-first : goal.overflow_add-first
-overflow_add-first c = omega (arith, c.requires.0.bounded, c.constraints_at-first.ensures)
-
-pub offset_bounds-table-first : goal.offset_bounds-table-first
-offset_bounds-table-first c = omega (arith, c.requires.0.bounded, c.constraints_at-first.ensures)
-
-pub bounds-table-first : goal.bounds-table-first
-bounds-table-first c = omega (arith, c.requires.0.long, c.constraints_at-first.ensures)
-
-pub literal-requires : goal.literal-requires
-literal-requires c =
-    let pre = c.requires in
-    (c.sign_table-signs.ensures, constraint_word _ _ pre.0 c.constraints_at-first.ensures c.loop-i-test.true, pre.1)
-
-pub returns-then-literal-eq1 : goal.returns-then-literal-eq1
-returns-then-literal-eq1 c =
-    low_found _ _ _ c.loop-i.invariant c.args.counts c.constraints_at-first.ensures refl c.loop-i-test.true c.literal.ensures c.if-literal-eq1.true
-
-pub loop-i-preserved : goal.loop-i-preserved
-loop-i-preserved c = low_next _ _ _ c.loop-i.invariant c.loop-i-test.true c.literal.ensures c.if-literal-eq1.false
+pub any-requires-clause-callable : goal.any-requires-clause-callable
+any-requires-clause-callable c =
+    serves_from_places (YieldsList-from_slice _ cc) (λ x q k. search rules)
+    (λ x k h e. let small = constraint_word _ _ c.args.board.now.legal c.constraints_at-first.ensures k h e in search (rules, small))
 
 pub returns : goal.returns
-returns c = low_missing _ _ _ c.loop-i.invariant c.args.counts c.constraints_at-first.ensures refl c.loop-i-test.false
+returns c =
+    let values = values_of c.args.values.now.bytes in
+    any_low _ _ c.args.board.now.legal c.constraints_at-first.ensures values _
+    (cases_from_any c.any.new.self _ _ (is_low values) (λ x. is_low values x → ⊥) c.any.ensures.ran (YieldsList-from_slice _ cc) (λ x q k. search (rules, tests)) (λ x q k. search (rules, tests)))

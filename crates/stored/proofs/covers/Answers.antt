@@ -1,19 +1,13 @@
-use mathlib.Core.Path.{refl}
-use borrow.Author.Tests.{eq-eqb, ne_eqb}
-use Rattle.three.proofs.Loops.{tried_first, tried_next, tried_fails, tried_all}
-use Rattle.stored.specs.CubesInCode.{covers_from}
+-- `stored::covers` meets its contract: byte after byte is tried. Assumes nothing.
+use mathlib.Core.Path.{◌≡◌}
+use mathlib.Core.Bool.{true, false}
+use borrow.Author.Tests.{tests}
+use Rattle.std.proofs.Common.{rules}
+use Rattle.std.proofs.lemmas.Iterator.{cases_from_all, YieldsList-from_slice, YieldsList-from_zip}
+use Rattle.stored.proofs.Bytewise.{within, all_within}
 use Rattle.stored.proofs.covers.Goals as goal
 
-pub loop-i-init : goal.loop-i-init
-loop-i-init c = tried_first _ _
-
-pub returns-then-c-b : goal.returns-then-c-b
-unfolding covers_from
-returns-then-c-b c = tried_fails _ _ c.loop-i-test.true refl (ne_eqb _ _ c.if-c-b.true)
-
-pub loop-i-preserved : goal.loop-i-preserved
-loop-i-preserved c = tried_next _ _ c.loop-i.invariant c.loop-i-test.true refl (eq-eqb _ _ c.if-c-b.false)
-
 pub returns : goal.returns
-unfolding covers_from
-returns c = tried_all _ _ c.loop-i.invariant c.loop-i-test.false
+returns c =
+    all_within _ _ _ _ c.requires.0 c.requires.1 _
+    (cases_from_all c.all.new.self _ _ (λ p. within p ≡ true) (λ p. within p ≡ false) c.all.ensures.ran (YieldsList-from_zip (YieldsList-from_slice _ cc) (YieldsList-from_slice _ cc)) (λ x q k. search (rules, tests)) (λ x q k. search (rules, tests)))

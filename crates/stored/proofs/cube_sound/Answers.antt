@@ -10,14 +10,14 @@ use lib.Seq.{get_or-drop}
 use Rattle.stored.proofs.cube_sound.Goals as goal
 
 pub bounds-cubes-at : goal.bounds-cubes-at
-bounds-cubes-at c = omega (arith, some_bytes c.args.latches, c.requires.2)
+bounds-cubes-at c = omega (arith, some_bytes c.args.latches, c.requires.1)
 
 pub returns-then-cubes-at-lt64 : goal.returns-then-cubes-at-lt64
 returns-then-cubes-at-lt64 c = mark_missing _ _ (rw (get_or-drop, add-zero) c.if-cubes-at-lt64.true)
 
 pub sound-requires : goal.sound-requires
 sound-requires c =
-    (c.requires.0, omega (arith, c.requires.1), rw (part_tail, length-drop, add-one, ← cube_bytes_lem c.args.latches) (omega (arith, c.requires.2)))
+    (omega (arith, c.requires.0), rw (part_tail, length-drop, add-one, ← cube_bytes_lem c.args.latches) (omega (arith, c.requires.1)))
 
 pub returns : goal.returns
 returns c =

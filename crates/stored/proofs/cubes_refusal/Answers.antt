@@ -2,11 +2,8 @@
 use mathlib.Core.Path.{sym, ◌∙◌}
 use native.Mathlib.Omega.{arith}
 use Rattle.cubes.proofs.StoredCube.{some_bytes}
-use Rattle.cubes.proofs.Given.{cubes_short, cubes_bad, cubes_pass, cubes_fit, room_is}
+use Rattle.cubes.proofs.Given.{cubes_short, cubes_bad, cubes_pass, room_is}
 use Rattle.stored.proofs.cubes_refusal.Goals as goal
-
-pub cube_bytes-requires : goal.cube_bytes-requires
-cube_bytes-requires c = c.requires.latches
 
 pub nonzero_div-cubes : goal.nonzero_div-cubes
 nonzero_div-cubes c = omega (arith, c.cube_bytes.ensures, some_bytes c.args.counts.latches)
@@ -15,11 +12,6 @@ pub returns-then-n-cubes : goal.returns-then-n-cubes
 returns-then-n-cubes c =
     let room = room_is c.args.counts c.args.cubes.now c.cube_bytes.ensures in
     cubes_short _ _ _ (omega (arith, room))
-
-pub cubes_sound-requires : goal.cubes_sound-requires
-cubes_sound-requires c =
-    let room = room_is c.args.counts c.args.cubes.now c.cube_bytes.ensures in
-    (omega (arith, c.requires), cubes_fit c.args.counts c.args.cubes.now _ (omega (arith, room)))
 
 pub returns-then-not-cubes_sound : goal.returns-then-not-cubes_sound
 returns-then-not-cubes_sound c =

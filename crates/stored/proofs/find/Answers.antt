@@ -1,9 +1,8 @@
 -- `stored::find` meets its contract: the latches are marked, and searched for. Assumes nothing.
-use mathlib.Core.Path.{◌∙◌}
-use Rattle.stored.proofs.Raising.{length_raised, first_front}
+use Rattle.stored.proofs.Raising.{length_raised, found_front}
 use native.Mathlib.Omega.{arith}
 use Rattle.stored.proofs.find.Goals as goal
 
 pub returns : goal.returns
 returns c =
-    c.search.ensures ∙ first_front _ _ _ _ _ c.marked-b.ensures (omega (arith, length_raised c.args.len 3 c.args.latches.now)) _
+    found_front _ _ _ _ _ c.marked-b.ensures (omega (arith, length_raised c.args.len 3 c.args.latches.now)) _ _ c.search.ensures

@@ -8,4 +8,4 @@ returns-then-k-len c =
 
 pub returns : goal.returns
 returns c =
-    lowered_inner _ _ c.requires.0 c.args.cubes.now (λ i. (c.shared_slice_known-2-1.given i).fits) c.args.at c.requires.2 _ c.requires.3 c.if-k-len.false c.lowered-2.ensures
+    lowered_inner _ _ c.requires.0 c.args.cubes.now (λ i. (c.type_inv.cubes i).fits) c.args.at c.requires.2 _ c.requires.3 c.if-k-len.false c.lowered-2.ensures

@@ -1,12 +1,5 @@
-use mathlib.Core.Path.{refl}
-use Rattle.stored.proofs.Searching.{outer_first, inner_first, inner_next, clash, found, missing}
+use Rattle.stored.proofs.Searching.{inner_next, clash, found, missing}
 use Rattle.stored.proofs.search.Goals as goal
-
-pub stored-init : goal.stored-init
-stored-init c = outer_first _ _ _ _ c.requires.0
-
-pub loop-i-init : goal.loop-i-init
-loop-i-init c = (inner_first _ _ _ _ c.requires.0 _ _ c.stored.invariant c.if-k-n.false, refl)
 
 pub stored-preserved : goal.stored-preserved
 stored-preserved c =

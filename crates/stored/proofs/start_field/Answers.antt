@@ -1,15 +1,13 @@
--- `stored::start_field` meets its contract: a reset of 0 is known 0, one of 1 known 1, and any other X. Assumes nothing.
-use Rattle.stored.proofs.Starting.{start_beyond, start_low, start_high, start_free}
+-- `stored::start_field` meets its contract: the three cases of the definition. Assumes nothing.
+use native.Mathlib.Omega.{arith}
+use Rattle.stored.proofs.Starting.{reset_low, reset_high, reset_free}
 use Rattle.stored.proofs.start_field.Goals as goal
 
-pub returns-then-i-count : goal.returns-then-i-count
-returns-then-i-count c = start_beyond _ _ _ c.if-i-count.true
+pub returns-in-0 : goal.returns-in-0
+returns-in-0 c = reset_low c.in-0.is
 
-pub returns-then-reset-eq0 : goal.returns-then-reset-eq0
-returns-then-reset-eq0 c = start_low _ _ _ c.if-i-count.false c.if-reset-eq0.true
+pub returns-in-1 : goal.returns-in-1
+returns-in-1 c = reset_high c.in-1.is
 
-pub returns-then-reset-eq1 : goal.returns-then-reset-eq1
-returns-then-reset-eq1 c = start_high _ _ _ c.if-i-count.false c.if-reset-eq1.true
-
-pub returns : goal.returns
-returns c = start_free _ _ _ c.if-i-count.false c.if-reset-eq0.false c.if-reset-eq1.false
+pub returns-in_default : goal.returns-in_default
+returns-in_default c = reset_free _ (λ z. omega arith) (λ z. omega arith)

@@ -3,4 +3,4 @@ use Rattle.stored.proofs.Raising.{Raised}
 use Rattle.stored.proofs.store_cube.Given as goal
 
 abbrev pub invariant-loop-i : goal.invariant-loop-i
-invariant-loop-i l = Raised l.len l.initial.above l.latches l.initial.out l.at l.out l.i l.above
+invariant-loop-i l = Raised l.len l.initial.above l.latches l.initial.byte-items l.byte-items l.i l.above

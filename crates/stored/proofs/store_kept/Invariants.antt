@@ -4,4 +4,4 @@ use Rattle.stored.specs.CubesInCode.{kept_bytes}
 use Rattle.stored.proofs.store_kept.Given as goal
 
 abbrev pub invariant-loop-i : goal.invariant-loop-i
-invariant-loop-i l = Stored l.initial.out 0 (kept_bytes l.len l.held l.b) l.len l.out l.i
+invariant-loop-i l = Stored l.initial.byte-items 0 (kept_bytes l.len l.held l.b) l.len l.byte-items l.i

@@ -1,18 +1,29 @@
-use Rattle.three.proofs.Loops.{stored_first}
-use Rattle.three.proofs.Filling.{fill_next, fill_last}
-use Rattle.stored.proofs.Starting.{start_sized}
+-- `stored::store_start` meets its contract: each field is a reset's. Assumes nothing.
+use mathlib.Core.Path.{◌≡◌}
+use Prim.Native.Nat.{◌+◌, ◌*◌}
+use lib.ListN.{get_or}
 use native.Mathlib.Omega.{arith}
+use borrow.Author.Rules.{rules}
+use Rattle.three.specs.Value.{code}
+use Rattle.three.proofs.Filling.{is_small}
+use Rattle.cubes.specs.Run.{start_field}
+use Rattle.stored.specs.CubesInCode.{start_fields}
+use Rattle.stored.proofs.Starting.{start_sized, start_given}
 use Rattle.stored.proofs.store_start.Goals as goal
 
-pub loop-k-init : goal.loop-k-init
-loop-k-init c = stored_first _ _ _ _
-
-pub loop-k-preserved : goal.loop-k-preserved
-loop-k-preserved c =
-    fill_next _ _ (start_sized _ _) _ _ _ _ c.requires.2 c.loop-k.invariant (omega arith) c.start_byte.ensures
-
-pub shape_of-out : goal.shape_of-out
-shape_of-out c = c.loop-k.invariant.long
+pub store_fields-requires : goal.store_fields-requires
+store_fields-requires c = (
+  record {
+    calls = λ i h. search rules;
+    codes = λ i r h e. let is : r ≡ code (start_field (get_or c.args.table.now (2 * i + 1) 0)) = search rules in is_small _ is;
+  },
+  omega arith,
+  c.requires.2,
+)
 
 pub returns : goal.returns
-returns c = fill_last _ _ (start_sized _ _) _ _ _ c.loop-k.invariant (omega arith)
+returns c =
+    c.store_fields.ensures (start_fields c.args.table.now c.args.count) (record {
+      sized = start_sized _ _;
+      gives = λ i r h e. let is : r ≡ code (start_field (get_or c.args.table.now (2 * i + 1) 0)) = search rules in start_given _ _ h is;
+    })

@@ -1,9 +1,9 @@
--- `three::and3` meets its contract: the lent table has the rule's answers. Assumes nothing.
+-- `three::and3` meets its contract: the table's rows are the rule's answers, which antt computes and compares. Assumes nothing.
+use Rattle.three.specs.Lists.{tabulate}
 use Rattle.three.specs.Value.{code, decode, both}
-use Rattle.three.specs.RecordInCode.{gate_table}
 use Rattle.three.proofs.Table.{entry_of_row}
 use Rattle.three.proofs.and3.Goals as goal
 
 pub returns : goal.returns
-unfolding gate_table
-returns c = let pre = c.requires in rw pre.0 (entry_of_row 0 (λ a b. code (both (decode a) (decode b))) 3 3 _ _ pre.1 pre.2)
+unfolding tabulate code decode both
+returns c = let pre = c.requires in entry_of_row 0 (λ a b. code (both (decode a) (decode b))) 3 3 _ _ pre.0 pre.1

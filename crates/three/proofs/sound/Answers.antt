@@ -6,11 +6,11 @@ use native.Mathlib.Nat.{one-le-pow}
 use native.Mathlib.Omega.{arith}
 use borrow.Author.Tests.{eq-eqb, ne_eqb}
 use lib.Dec.{eqb}
-use lib.ListN.{get_or}
+use lib.ListN.{length, get_or}
 use Rattle.three.specs.Lists.{tabulate}
 use Rattle.three.specs.Record.{bytes_for, leftover, sound}
 use Rattle.three.specs.RecordInCode.{judged}
-use Rattle.three.proofs.Loops.{Tried, tried_first, tried_next, tried_fails, tried_all}
+use Rattle.three.proofs.Loops.{Tried, tried_first, tried_next, tried_fails, tried_all, front_length, front_at}
 use Rattle.three.proofs.Table.{same_answers}
 use Rattle.three.proofs.Bytes.{judged_bad}
 use Rattle.three.proofs.Soundness.{good_byte}
@@ -35,17 +35,20 @@ accepted : (bytes : List ℕ) (f n k : ℕ) → n ≡ bytes_for f → Tried n (g
 unfolding sound leftover
 accepted bytes f n k e t h = rw (← e, unit_power (4 * n - f) (omega arith), ← tried_all n (good_byte bytes) t h)
 
-pub loop-k-init : goal.loop-k-init
-loop-k-init c = tried_first _ _
-
-pub known-requires : goal.known-requires
-known-requires c = c.requires.0
+pub loop-byte-init : goal.loop-byte-init
+loop-byte-init c = tried_first _ _
 
 pub returns-then-known : goal.returns-then-known
-returns-then-known c = refused _ _ _ (omega arith) (sym c.known.ensures ∙ c.if-known.true)
+returns-then-known c =
+    let fits : c.record_length-len.result ≤ length c.args.bytes.now = omega (arith, c.requires.1) in
+    let at = front_at _ _ fits _ 0 c.loop-byte-test.true in
+    refused _ _ c.loop-byte.byte-index (omega (arith, front_length _ _ fits)) (ap judged (sym at) ∙ sym c.known.ensures ∙ c.if-known.true)
 
-pub loop-k-preserved : goal.loop-k-preserved
-loop-k-preserved c = tried_next _ _ c.loop-k.invariant (omega arith) refl (ap not (sym (judged_bad _) ∙ ne_eqb _ _ (λ e. c.if-known.false (c.known.ensures ∙ e))))
+pub loop-byte-preserved : goal.loop-byte-preserved
+loop-byte-preserved c =
+    let fits : c.record_length-len.result ≤ length c.args.bytes.now = omega (arith, c.requires.1) in
+    let at = front_at _ _ fits _ 0 c.loop-byte-test.true in
+    tried_next _ _ c.loop-byte.invariant (omega (arith, front_length _ _ fits)) refl (ap not (sym (judged_bad _) ∙ ne_eqb _ _ (λ e. c.if-known.false (c.known.ensures ∙ ap judged at ∙ e))))
 
 pub overflow_cast-last : goal.overflow_cast-last
 overflow_cast-last c = omega (arith, c.type_inv.bytes (c.record_length-len.result - 1))
@@ -54,4 +57,6 @@ pub nonzero_rem-result : goal.nonzero_rem-result
 nonzero_rem-result c = unit_pos (4 * c.record_length-len.result - c.args.fields) (omega arith)
 
 pub returns : goal.returns
-returns c = accepted _ _ _ _ c.record_length-len.ensures c.loop-k.invariant (omega arith)
+returns c =
+    let fits : c.record_length-len.result ≤ length c.args.bytes.now = omega (arith, c.requires.1) in
+    accepted _ _ _ _ c.record_length-len.ensures c.loop-byte.invariant (omega (arith, front_length _ _ fits))

@@ -1,10 +1,12 @@
 -- `why::begin` meets its contract: its two tests are made in turn. Assumes nothing.
 use mathlib.Core.Path.{refl}
-use Rattle.why.proofs.Asking.{marked_before, marked_now}
+use Rattle.why.specs.MarksInCode.{marked}
 use Rattle.why.proofs.begin.Goals as goal
 
-pub returns-then-old-eq1 : goal.returns-then-old-eq1
-returns-then-old-eq1 c = record { answers = marked_before _ _ _ c.if-old-eq1.true; sets = refl }
+pub returns-then-not-old : goal.returns-then-not-old
+unfolding marked
+returns-then-not-old c = record { answers = rw c.if-not-old.true; sets = refl }
 
-pub returns : goal.returns
-returns c = record { answers = marked_now _ _ _ c.if-old-eq1.false; sets = refl }
+pub returns-else-not-old : goal.returns-else-not-old
+unfolding marked
+returns-else-not-old c = record { answers = rw c.if-not-old.false; sets = refl }

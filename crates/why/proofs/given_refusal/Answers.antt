@@ -10,8 +10,8 @@ returns-then-state-record_length c = state_short _ _ _ (omega arith)
 pub returns-then-not-sound : goal.returns-then-not-sound
 returns-then-not-sound c = state_bad _ _ _ (omega arith) (sym c.sound.ensures ∙ c.if-not-sound.true)
 
-pub returns-then-lamp-counts : goal.returns-then-lamp-counts
-returns-then-lamp-counts c = no_lamp _ _ _ (omega arith) (sym c.sound.ensures ∙ c.if-not-sound.false) c.if-lamp-counts.true
+pub returns-then-lamp-board : goal.returns-then-lamp-board
+returns-then-lamp-board c = no_lamp _ _ _ (omega arith) (sym c.sound.ensures ∙ c.if-not-sound.false) c.if-lamp-board.true
 
 pub returns : goal.returns
-returns c = given_passes _ _ _ (omega arith) (sym c.sound.ensures ∙ c.if-not-sound.false) c.if-lamp-counts.false
+returns c = given_passes _ _ _ (omega arith) (sym c.sound.ensures ∙ c.if-not-sound.false) c.if-lamp-board.false

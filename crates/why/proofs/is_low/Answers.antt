@@ -3,4 +3,4 @@ use Rattle.circuit.proofs.LiteralValue.{low_code}
 use Rattle.why.proofs.is_low.Goals as goal
 
 pub returns : goal.returns
-returns c = low_code _ _ _ c.variable-v.ensures
+returns c = low_code _ _ _ c.get-v.ensures

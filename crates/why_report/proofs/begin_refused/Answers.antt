@@ -4,4 +4,4 @@ use Rattle.why_report.proofs.Pieces.{put_whole}
 use Rattle.why_report.proofs.begin_refused.Goals as goal
 
 pub returns : goal.returns
-returns c = (put_whole c.put_refusal.ensures, refl, refl)
+returns c = (put_whole c.put_refusal.ensures, refl)

@@ -1,9 +1,0 @@
--- `stored::start_byte` meets its contract: its four fields are read, and packed. Assumes nothing.
-use Rattle.three.proofs.Filling.{is_small, four_fields}
-use Rattle.stored.proofs.start_byte.Goals as goal
-
-pub byte_of-requires : goal.byte_of-requires
-byte_of-requires c = (is_small _ c.start_field-a.ensures, is_small _ c.start_field-b.ensures, is_small _ c.start_field-c.ensures, is_small _ c.start_field-d.ensures)
-
-pub returns : goal.returns
-returns c = four_fields _ _ c.start_field-a.ensures c.start_field-b.ensures c.start_field-c.ensures c.start_field-d.ensures c.byte_of.ensures

@@ -1,6 +1,0 @@
--- Each run of equal words leaves fewer to say.
-use Rattle.std.proofs.Common.{length, ◌-◌}
-use Rattle.vectors.proofs.say.say_words.Given as goal
-
-abbrev pub decreases-loop-at : goal.decreases-loop-at
-decreases-loop-at l = length l.words - l.at

@@ -1,6 +1,0 @@
--- Each line leaves fewer cubes.
-use Rattle.std.proofs.Common.{◌-◌}
-use Rattle.why_report.proofs.print_groups.Given as goal
-
-abbrev pub decreases-loop-from : goal.decreases-loop-from
-decreases-loop-from l = l.n - l.from

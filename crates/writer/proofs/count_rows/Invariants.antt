@@ -1,0 +1,6 @@
+-- `writer::count_rows` meets its contract: row by row, what is left makes it the whole. Assumes nothing.
+use Rattle.writer.proofs.WrittenRows.{RowsLeft}
+use Rattle.writer.proofs.count_rows.Given as goal
+
+abbrev pub invariant-loop-i : goal.invariant-loop-i
+invariant-loop-i g l = RowsLeft l.rows.kind l.rows.own l.rows.count l.table l.rows.at l.wide g.F.Form.each l.start l.end l.i
