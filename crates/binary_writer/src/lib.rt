@@ -100,8 +100,7 @@ enum Row {
     Differences(GateDifferences),
 }
 
-// The row of a kind whose words stand at word `at`. By itself it would hand each row on through memory.
-#[inline(always)]
+// The row of a kind whose words stand at word `at`.
 fn row_of(kind: LineKind, own: usize, table: &[u16], at: usize) -> Row
     requires { RowThere kind own table.now at }
     ensures { Rows kind own table.now at result }
