@@ -1,13 +1,14 @@
 -- The beginners' run: what it answers and leaves where it is refused, and where its chain is made. Assumes nothing.
 use mathlib.Core.Path.{◌≡◌, sym, ap, ◌∙◌}
-use mathlib.Core.Bool.{true}
+use mathlib.Core.Bool.{true, false≢true}
 use mathlib.Core.List.{List}
+use Rattle.std.proofs.Common.{rules}
 use Prim.Native.Nat.{ℕ}
 use lib.ListN.{length}
 use Rattle.three.specs.Lists.{over}
 use Rattle.circuit.specs.Refusal.{refusal}
 use Rattle.circuit.proofs.Refusals.{refused_old, accepted_new}
-use Rattle.std.specs.Prelude.{Result, IsErrAnd}
+use Rattle.std.specs.Prelude.{Result, Ok, Err, IsOk, IsErrAnd}
 use Rattle.std.proofs.lemmas.Result.{err_from_is_err_and}
 use Rattle.circuit.specs.declared.Refusal.{Refusal}
 use Rattle.circuit.specs.Answer.{number_of}
@@ -22,6 +23,11 @@ use Rattle.cubes.specs.Run.{cube_at}
 use Rattle.cubes.specs.Buffer.{pack_cubes, marked}
 use Rattle.cubes.specs.Chain.{circuit_in, outcome_in, cubes_in, back_in}
 use Rattle.beginners.specs.Calls.{chain_beginners_tests, BoardGiven, refused_by, unwidened, ChainedBeginners}
+
+-- a chain that has stopped was made
+made_ok : (r : Result Chain NoRoom) → made_stopped r ≡ true → IsOk r
+made_ok (Ok a) h = search rules
+made_ok (Err e) h = absurd (false≢true h)
 
 module _ (g : BoardGiven) where
   refused : {k : ℕ} → k ≡ refusal (chain_beginners_tests g.counts g.table (length g.cubes)) → (k ≡ 0 → ⊥) → ChainedBeginners g (record { number = k; cubes = 0; back = 0 }) g.cubes
@@ -64,3 +70,6 @@ module _ (g : BoardGiven) where
     pub run_stops : made_stopped r ≡ true
     unfolding outcome_in circuit_in has_stopped
     run_stops = made.closes ∙ ap has_stopped ((always_closes g _ cubes run_made).closes ok)
+
+    pub run_ok : IsOk r
+    run_ok = made_ok r run_stops

@@ -171,8 +171,6 @@ pub fn chain_beginners(counts: Counts, table: &[u16], cubes: &mut [u8]) -> Resul
     ensures { ChainedBeginners (record { counts = counts; table = table.now; cubes = cubes.old }) (roomy_answer result) cubes.new × AlwaysCloses (record { counts = counts; table = table.now; cubes = cubes.old }) (roomy_answer result) cubes.new }
 {
     let board = chain_refusal(counts, table, cubes.len())?;
-    let Ok(made) = chain::make_chain(&board, 0, cubes) else {
-        unreachable!() // there is room for every cube
-    };
-    Ok(made)
+    // There is room for every cube.
+    Ok(chain::make_chain(&board, 0, cubes).unwrap())
 }

@@ -19,7 +19,7 @@ use Rattle.text.proofs.Lines.{split_line_lem}
 use Rattle.text.proofs.Spelling.{listed}
 use Rattle.lines.specs.declared.read_line.ReadLine.{ReadLine}
 use Rattle.lines.specs.LinesInCode.{from, numbers_of, LineFound}
-use Rattle.lines.specs.Shape.{Shape, most_numbers}
+use Rattle.lines.specs.ShapeInCode.{Shape, most_numbers}
 use Rattle.lines.proofs.Finding.{line_length, line_got}
 use Rattle.binary.specs.Binary.{owned}
 

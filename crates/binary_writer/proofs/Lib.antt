@@ -1,2 +1,3 @@
 pub mod PuttingGates
 pub mod RowLines
+pub mod WrittenBinary

@@ -2,7 +2,7 @@
 use mathlib.Core.Path.{◌≡◌, refl, ◌∙◌, ap}
 use native.Mathlib.Omega.{arith}
 use mathlib.Core.List.{List, [], ◌∷◌}
-use Prim.Native.Nat.{ℕ, ◌+◌, ◌<◌}
+use Prim.Native.Nat.{ℕ, ◌+◌, ◌≤◌, ◌<◌}
 use lib.ListN.{get_or}
 use Rattle.text.specs.declared.LineKind.{LineKind}
 use Rattle.text.specs.declared.LineKind.TheVariants.{Input, Latch, Lamp, Gate}
@@ -24,6 +24,10 @@ latch_plain_lem n e = record { same = rw e; small = n }
 
 pub latch_given : {own next reset second : ℕ} → next < 10000 → second < 10000 → shown own reset ≡ second ∷ [] → LatchRow own next reset (Two next second)
 latch_given n s e = record { same = rw e; small = (n, s) }
+
+-- a number from 1 to 2 that is not 2 is 1
+pub is_latch : (k : ℕ) → 1 ≤ k → k ≤ 2 → (k ≡ 2 → ⊥) → k ≡ 1
+is_latch k l h f = omega arith
 
 -- the row of a kind whose words stand at word `at`
 module _ {k : LineKind} (own : ℕ) (words : List ℕ) (at : ℕ) where

@@ -59,6 +59,10 @@ module _ (c : Counts) (words : List ℕ) (w len room : ℕ) (start buffer : List
     some_byte : 1 ≤ len
     some_byte = omega (arith, f.size, cube_some c.latches)
 
+    -- no more cubes than bytes that may be lent
+    pub count_within : count ≤ 65536
+    count_within = omega (arith, mul-le-mul_right count some_byte, mul_comm count len, one-mul count, cubes_fit, kept_length, f.small)
+
     pub state_record : IsRecord c.latches state
     state_record = last_record c words w buffer g t.few
 

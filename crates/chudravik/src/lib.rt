@@ -1,4 +1,4 @@
-// The C interface (include/chudravik.h): each public call under its C name, with the same contract, and nothing else.
+// The C interface (include/chudravik.h): each public call under its C name, with the same contract, and what C is answered.
 #![tactic(auto)]
 
 ghost use Rattle.std.specs.Prelude.{◌≡◌};

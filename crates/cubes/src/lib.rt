@@ -15,7 +15,7 @@ pub struct Chain {
 }
 
 // No room for a cube more (15): how many are stored.
-#[derive(Clone, Copy)]
+#[derive(Clone, Copy, Debug)]
 pub struct NoRoom {
     pub cubes: usize,
 }

@@ -1,11 +1,11 @@
 -- Cube 0 against the resets, and each next state against the cube that comes after: byte by byte what the definition says. Assumes nothing.
-use mathlib.Core.Path.{◌≡◌, sym, ap, ◌∙◌}
+use mathlib.Core.Path.{◌≡◌, refl, sym, ap, ◌∙◌}
 use mathlib.Core.Bool.{Bool, true, false, ◌||◌, false≢true}
 use mathlib.Core.List.{List}
 use Rattle.std.specs.Prelude.{Option, Some, None}
 use Rattle.std.specs.Option.{MatchOption, IfSome}
 use Prim.Native.Nat.{ℕ, ◌+◌, ◌*◌, ◌<◌, ◌≤◌}
-use native.Mathlib.Nat.{zero-add, zero-mul}
+use native.Mathlib.Nat.{zero-add, zero-mul, mul-le-mul_right}
 use native.Mathlib.Omega.{arith}
 use borrow.Author.Tests.{lt-ltb, le-ltb}
 use lib.ListN.{length, get_or, drop, replicate}
@@ -28,6 +28,7 @@ use Rattle.cubes.proofs.Marks.{no_mark, cube_covers}
 use Rattle.cubes.proofs.Held.{Bytes, padded_byte}
 use Rattle.cubes.proofs.Storing.{cube_place}
 use Rattle.cubes.proofs.Buffered.{next_counted}
+use Rattle.cubes.proofs.Places.{onward_within}
 use Rattle.stored.specs.CubesInCode.{start_fields, raised_bytes, covers_from, Settled}
 use Rattle.stored.proofs.Starting.{start_fields_lem, start_sized}
 use Rattle.stored.proofs.Reaching.{next_bytes}
@@ -103,6 +104,12 @@ pub then_asked : {a b r : Bool} → a ≡ true → r ≡ b → r ≡ and_then a 
 unfolding and_then
 then_asked e f = rw e f
 
+-- what is asked behind a test needs to be the same only where that holds
+pub then_same : (a b b' : Bool) {r : Bool} → r ≡ and_then a b → (a ≡ true → b ≡ b') → r ≡ and_then a b'
+unfolding and_then
+then_same true b b' e f = e ∙ f refl
+then_same false b b' e f = e
+
 module _ (c : Circuit) (cubes : ℕ → Cube) (after : Option ℕ) (b : Cube) {l : Bool} (lies : l ≡ inside cubes after b) where
   pub goes_inside : l ≡ true → true ≡ goes_into c cubes after b
   unfolding goes_into
@@ -161,6 +168,10 @@ module _ (c : Counts) (words : List ℕ) (len n j : ℕ) (cubes : List ℕ) wher
     pub asked_first : (after : Option ℕ) → Onward n j 0 after
         → {r : Bool} → r ≡ goes_into (circuit_of c words) (cube_in c.latches cubes) after (next_cube (circuit_of c words) (cube_of c.latches cubes)) → r ≡ follows c words n j cubes 0
     asked_first after is e = asked 0 after is (rw zero-mul e)
+
+    -- the place of the cube that comes after is within the buffer, or its end
+    pub after_product : (k : ℕ) → j ≤ n → {m : ℕ} → m ≡ onward n j k → m * len ≤ length cubes
+    after_product k within {m} is = omega (arith, mul-le-mul_right len (rw (← is) at (onward_within n j k within)), given.fits)
 
   module _ (entry : List ℕ) (fits : bytes_for (verdicts c) ≤ length entry) (begun : List ℕ) (first : begun ≡ over (pack (watched_in (circuit_of c words) (cube_of c.latches cubes))) entry)
       {verdict values seen : List ℕ} {k : ℕ} (p : Passing c words len n cubes (follows c words n j cubes) begun verdict values seen k) where

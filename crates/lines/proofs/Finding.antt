@@ -5,17 +5,20 @@ use Prim.Native.Nat.{ℕ, zero, suc, ◌+◌, ◌-◌, ◌≤◌, ◌<◌}
 use native.Mathlib.Numerals.{add-one}
 use native.Mathlib.Omega.{arith}
 use native.Mathlib.Nat.{sub-zero, min-le_left, not-suc-le-zero}
+use borrow.Author.Tests.{ltb-true, ltb-false}
+use lib.Dec.{ltb}
 use lib.ListN.{length, get_or, set, take, length-set, length-take, get_or-eq_default}
 use lib.Seq.{take-suc-set, get_or-take, length-take-le}
 use Rattle.text.specs.Part.{Part, got, ill}
 use Rattle.text.specs.Line.{prepend, split_line}
 use Rattle.std.specs.Prelude.{Option, Some, None}
-use Rattle.lines.specs.Shape.{most_numbers, Shape}
+use Rattle.lines.specs.ShapeInCode.{most_numbers, Shape}
 use Rattle.lines.specs.LinesInCode.{from, line_part, line_end, FoundInLine, counted, numbers_of, LineFound}
 use Rattle.lines.specs.declared.Number.{Number}
 use Rattle.lines.specs.declared.read_line.ReadLine.{ReadLine}
 use Rattle.lines.specs.declared.InLine.{InLine}
 use Rattle.lines.specs.declared.InLine.TheVariants.{Last, More}
+use Rattle.three.proofs.Lists.{by_test}
 
 -- ---- a line: k numbers are read, and the next one stands at `next`
 
@@ -109,3 +112,9 @@ line_got {text} l f h = f.reads ∙ go l.count h
 pub line_ill_formed : {text : List ℕ} {p : Part (List ℕ)} (l : ReadLine) → LineFound text p l → l.count ≡ 0 → p ≡ ill
 unfolding counted
 line_ill_formed l f e = f.reads ∙ rw e
+
+-- the line's numbers and position, where it is read
+pub line_read : {text : List ℕ} {p : Part (List ℕ)} {ns rest : List ℕ} (l : ReadLine) → LineFound text p l → p ≡ got ns rest → (numbers_of l ≡ ns) × (from text l.next ≡ rest)
+line_read l f e = by_test (ltb 0 l.count)
+    (λ h. let g = line_got l f (ltb-true 0 l.count h) in (cc, cc))
+    (λ h. let z : l.count ≡ 0 = omega (arith, ltb-false 0 l.count h) in let g = line_ill_formed l f z in absurd (let z : ◌≡◌ {A = ℕ} 0 1 = cc in omega arith))

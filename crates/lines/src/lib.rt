@@ -5,7 +5,7 @@ ghost use Rattle.std.specs.Prelude.{◌≡◌, List, ℕ, ◌≤◌, length};
 ghost use Rattle.text.specs.Decimal.{may_grow, read_number};
 ghost use Rattle.text.specs.Line.{split_line};
 ghost use Rattle.text.specs.Part.{ill};
-ghost use Rattle.lines.specs.Shape.{most_numbers};
+ghost use Rattle.lines.specs.ShapeInCode.{most_numbers};
 ghost use Rattle.lines.specs.LinesInCode.{from, leading, NumberFound, ending_bytes, first_byte, lead_bytes, EndingAt, FoundInLine, LineFound};
 
 mod read_line;
@@ -83,11 +83,14 @@ fn read_number(text: &[u8], at: usize) -> Option<Number>
 {
     let mut value = digit_at(text, at)?;
     let mut next = at + 1;
-    while let Some(digit) = digit_at(text, next) {
+    while let Some(&byte) = text.get(next) {
+        if !byte.is_ascii_digit() {
+            break;
+        }
         if !may_grow(value) {
             return None;
         }
-        value = value * 10 + digit;
+        value = value * 10 + usize::from(byte - b'0');
         next += 1;
     }
     Some(Number { value, next })

@@ -1,5 +1,5 @@
 // A line of numbers as it is read (specification, 4.2).
-ghost use Rattle.lines.specs.Shape.{Shape};
+ghost use Rattle.lines.specs.ShapeInCode.{Shape};
 
 // No line has more numbers than the first: M I L O A B C J F.
 pub const MOST_NUMBERS: usize = 9;
@@ -16,7 +16,7 @@ pub struct ReadLine {
 impl ReadLine {
     ghost use Rattle.std.specs.Prelude.{◌≡◌, ◌<◌, get_or};
     ghost use Rattle.text.specs.Text.{reset_word};
-    ghost use Rattle.lines.specs.Shape.{most_numbers};
+    ghost use Rattle.lines.specs.ShapeInCode.{most_numbers};
     ghost use Rattle.lines.specs.LinesInCode.{numbers_of};
 
     // Number i, and 0 where it is absent.

@@ -6,6 +6,7 @@ use native.Mathlib.Omega.{arith}
 use borrow.Author.Tests.{eqb-true, eqb-false}
 use lib.Dec.{eqb}
 use lib.ListN.{length, get_or, set, take, replicate, length-set, length-replicate}
+use lib.Seq.{get_or-set_same, get_or-set_other}
 use Rattle.three.specs.Record.{pairs, pair_at, unpack}
 use Rattle.three.specs.RecordInCode.{IsRecord}
 use Rattle.three.specs.Lists.{tabulate}
@@ -14,7 +15,7 @@ use Rattle.three.proofs.Loops.{Stored, stored_next}
 use Rattle.three.proofs.Lists.{by_test, length_tabulate, get_or_tabulate, tabulate_ext}
 use Rattle.three.proofs.Table.{entry_of_row}
 use Rattle.three.proofs.Bytes.{code_small, code_decode, decode_code}
-use Rattle.three.proofs.Pack.{length_unpack, pair_put, pair_kept, unpack_put}
+use Rattle.three.proofs.Pack.{length_unpack, unpack_put}
 use Rattle.three.proofs.Soundness.{sound_pair}
 use Rattle.circuit.specs.Circuit.{signed, value}
 use Rattle.pass.specs.ValuesInCode.{values_of, fresh_values, Working, Holding, Begins, sign_table, literal_values}
@@ -25,18 +26,33 @@ pub variable_value : (table : List ℕ) (v : ℕ) → v < 4096 → Working table
 unfolding values_of unpack
 variable_value table v h w = sym (code_decode _ (w.codes v)) ∙ ap code (sym (get_or_tabulate (4 * length table) _ v low (omega (arith, w.long))))
 
+-- a pair that is set among those of a byte, at any place, leaves no pair 11 there
+set_small : (ps : List ℕ) (p x i : ℕ) → x < 3 → get_or ps i 0 < 3 → get_or (set ps p x) i 0 < 3
+set_small [] p x i s h = h
+set_small (q ∷ ps) zero x zero s h = s
+set_small (q ∷ ps) zero x (suc i) s h = h
+set_small (q ∷ ps) (suc p) x zero s h = h
+set_small (q ∷ ps) (suc p) x (suc i) s h = set_small ps p x i s h
+
+-- so the table stays one, whichever pair of the byte is replaced
+pub put_works : (table : List ℕ) (v x byte p : ℕ) → v < 4096 → x < 3 → Working table → pairs byte ≡ set (pairs (get_or table (v / 4) 0)) p x
+    → Working (set table (v / 4) byte)
+unfolding pair_at
+put_works table v x byte p h s w put = record {
+  long = rw (length-set table (v / 4) byte) w.long;
+  codes = λ i. by_test (eqb (i / 4) (v / 4))
+      (λ t. let e = eqb-true (i / 4) (v / 4) t in
+      rw (e, get_or-set_same table (v / 4) byte 0 (omega (arith, w.long)), put) (set_small (pairs (get_or table (v / 4) 0)) p x (i % 4) s (rw e at (w.codes i))))
+      (λ t. rw (get_or-set_other table (v / 4) (i / 4) byte 0 (eqb-false (i / 4) (v / 4) t)) (w.codes i));
+}
+
 pub put_holds : (table : List ℕ) (v x byte : ℕ) → v < 4096 → x < 3 → Working table → pairs byte ≡ set (pairs (get_or table (v / 4) 0)) (v % 4) x
     → Holding (set table (v / 4) byte) (set (values_of table) v (decode x))
 unfolding values_of
 put_holds table v x byte h s w put =
     let room : v < 4 * length table = omega (arith, w.long) in
     record {
-      working = record {
-        long = rw (length-set table (v / 4) byte) w.long;
-        codes = λ i. by_test (eqb i v)
-            (λ t. rw (eqb-true i v t, pair_put table v x byte room put) s)
-            (λ t. rw (pair_kept table v x byte room put i (eqb-false i v t)) (w.codes i));
-      };
+      working = put_works table v x byte (v % 4) h s w put;
       same = rw (length-set table (v / 4) byte) (unpack_put table v x byte room put (4 * length table));
     }
 

@@ -18,7 +18,7 @@ use circuit::Board;
 // A working table of 4,096 values, packed as a record: two bits each.
 const VALUE_BYTES: usize = 1024;
 
-#[derive(Drop)]
+#[derive(Clone, Copy)]
 pub struct Values {
     pub bytes: [u8; VALUE_BYTES],
     pub ghost working: { Working bytes },

@@ -1,19 +1,23 @@
 -- The first line of a text: found at its positions, and what each of its tests says. Assumes nothing.
 use mathlib.Core.Path.{◌≡◌, sym, ◌∙◌}
-use mathlib.Core.Bool.{Bool, true, false}
+use mathlib.Core.Bool.{Bool, true, false, false≢true}
 use mathlib.Core.List.{List, [], ◌∷◌}
 use Prim.Native.Nat.{ℕ, ◌≤◌, ◌<◌}
 use native.Mathlib.Omega.{arith}
-use borrow.Author.Tests.{le-leb, lt-leb, eq-eqb, ne_eqb}
-use lib.Dec.{leb, eqb}
+use borrow.Author.Tests.{ltb-true, ltb-false, le-leb, lt-leb, eq-eqb, ne_eqb}
+use lib.Dec.{leb, ltb, eqb}
 use lib.ListN.{length, get_or}
 use Rattle.std.specs.List.{starts_with}
+use Rattle.three.specs.Lists.{every}
+use Rattle.three.proofs.Lists.{by_test}
 use Rattle.text.specs.Part.{ill}
 use Rattle.text.specs.Line.{split_line}
 use Rattle.text.specs.Text.{first_line, counts_of, count_tests, header_tests}
-use Rattle.lines.specs.Shape.{most_numbers}
+use Rattle.lines.specs.ShapeInCode.{most_numbers}
 use Rattle.lines.specs.LinesInCode.{from, numbers_of}
 use Rattle.lines.proofs.Endings.{strip_so, strip_not}
+use Rattle.reader.specs.ReaderInCode.{opened}
+use Rattle.text.proofs.Lines.{opening as opens, strip_short, strip_alike, strip_unlike}
 use Rattle.circuit.specs.declared.Counts.{Counts}
 use Rattle.circuit.specs.Refusal.{Test, ◌or◌, refusal}
 use Rattle.circuit.specs.Table.{variables, ceiling_tests}
@@ -33,6 +37,23 @@ module _ (opening text ending : List ℕ) {b : Bool} (e : b ≡ starts_with eqb 
   pub header_line : length opening ≡ 4 → b ≡ true → first_line opening ending text ≡ split_line ending most_numbers (from text 4)
   unfolding first_line from
   header_line four t = rw (first_line, strip_so opening text (sym e ∙ t), four)
+
+-- a text that opens with four bytes is as long, and the same byte by byte
+module _ (opening text : List ℕ) (four : length opening ≡ 4) where
+  pub opened_short : length text < 4 → false ≡ opened opening text
+  unfolding opened
+  opened_short h = sym (rw (opened, strip_short opening text (rw four h)))
+
+  pub opened_alike : 4 ≤ length text → every 4 (λ i. eqb (get_or opening i 0) (get_or text i 0)) ≡ opened opening text
+  unfolding opened
+  opened_alike h = rw (← four) (by_test (opens opening text)
+      (λ e. rw (e, opened, strip_alike opening text (rw four h) e))
+      (λ e. rw (e, opened, strip_unlike opening text (rw four h) e)))
+
+  pub opened_long : {b : Bool} → b ≡ opened opening text → b ≡ true → 4 ≤ length text
+  opened_long e t = by_test (ltb (length text) 4)
+      (λ h. absurd (false≢true (opened_short (ltb-true (length text) 4 h) ∙ sym e ∙ t)))
+      (ltb-false (length text) 4)
 
 -- ---- its refusals: how many numbers, J and F, the ceilings, and then M
 

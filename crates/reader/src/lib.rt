@@ -207,6 +207,7 @@ impl Form for Ending {
 
     ghost has_line = { λ ending kind. Unit {0} };
 
+    #[inline(always)] // the numbers of a line stay where the loop over lines has them
     fn line(self, text: &[u8], at: usize, _kind: LineKind, _own: usize) -> ReadLine {
         lines::line(text, at, self, BODY_NUMBERS)
     }

@@ -15,23 +15,29 @@
 use circuit::Counts;
 use cubes::{Chain, ChainAnswer, ChainRefusal};
 use sent::CoverAnswer;
-use vectors::parts::{Circuit, Parts};
-use vectors::room::Bytes;
+use vectors::parts::Parts;
+use vectors::room::{Bytes, Words};
 use vectors::say::Answer;
 use vectors::{Complaint, replay};
 
+#[inline(never)] // else its buffers lie on the stack beneath those of every other vector
 fn tick_vector(answer: Answer, mut parts: Parts) -> Result<(), Complaint> {
-    let circuit = parts.circuit()?;
-    let state: Bytes = parts.list()?;
-    let switches: Bytes = parts.list()?;
-    let mut next: Bytes = parts.room()?;
-    let mut lamps: Bytes = parts.room()?;
+    let mut table = Words::new();
+    let mut state = Bytes::new();
+    let mut switches = Bytes::new();
+    let mut next = Bytes::new();
+    let mut lamps = Bytes::new();
+    let counts = parts.circuit(&mut table)?;
+    parts.list(&mut state)?;
+    parts.list(&mut switches)?;
+    parts.room(&mut next)?;
+    parts.room(&mut lamps)?;
     parts.end()?;
     let next = next.lent()?;
     let lamps = lamps.lent()?;
     let answered = tick::tick(
-        circuit.counts,
-        circuit.table.given()?,
+        counts,
+        table.given()?,
         state.given()?,
         switches.given()?,
         next,
@@ -48,16 +54,18 @@ fn tick_vector(answer: Answer, mut parts: Parts) -> Result<(), Complaint> {
 
 fn run<F: Fn(Counts, &[u16], &mut [u8]) -> Result<Chain, ChainRefusal>>(
     answer: Answer,
-    circuit: Circuit,
+    counts: Counts,
+    table: &Words,
     mut parts: Parts,
     chain: F,
 ) -> Result<(), Complaint>
     requires { F.IsAlwaysCallable chain }
 {
-    let mut cubes: Bytes = parts.room()?;
+    let mut cubes = Bytes::new();
+    parts.room(&mut cubes)?;
     parts.end()?;
     let cubes = cubes.lent()?;
-    let answered = ChainAnswer::from(chain(circuit.counts, circuit.table.given()?, cubes));
+    let answered = ChainAnswer::from(chain(counts, table.given()?, cubes));
     answer.opens(answered.number);
     answer.number("n", answered.cubes);
     answer.number("j", answered.back);
@@ -67,16 +75,18 @@ fn run<F: Fn(Counts, &[u16], &mut [u8]) -> Result<Chain, ChainRefusal>>(
 }
 
 fn chain_vector(answer: Answer, mut parts: Parts) -> Result<(), Complaint> {
-    let circuit = parts.circuit()?;
+    let mut table = Words::new();
+    let counts = parts.circuit(&mut table)?;
     let w = parts.number()?;
-    run(answer, circuit, parts, |counts, table, cubes| {
+    run(answer, counts, &table, parts, |counts, table, cubes| {
         chained::chain(counts, table, w, cubes)
     })
 }
 
 fn chain_beginners_vector(answer: Answer, mut parts: Parts) -> Result<(), Complaint> {
-    let circuit = parts.circuit()?;
-    run(answer, circuit, parts, |counts, table, cubes| {
+    let mut table = Words::new();
+    let counts = parts.circuit(&mut table)?;
+    run(answer, counts, &table, parts, |counts, table, cubes| {
         Ok(beginner_board::chain_beginners(counts, table, cubes)?)
     })
 }
@@ -84,18 +94,22 @@ fn chain_beginners_vector(answer: Answer, mut parts: Parts) -> Result<(), Compla
 // ---- judge, cover
 
 fn judge_vector(answer: Answer, mut parts: Parts) -> Result<(), Complaint> {
-    let circuit = parts.circuit()?;
-    let cubes: Bytes = parts.list()?;
+    let mut table = Words::new();
+    let mut cubes = Bytes::new();
+    let mut verdict = Bytes::new();
+    let mut settled = Bytes::new();
+    let counts = parts.circuit(&mut table)?;
+    parts.list(&mut cubes)?;
     let n = parts.number()?;
     let j = parts.number()?;
-    let mut verdict: Bytes = parts.room()?;
-    let mut settled: Bytes = parts.room()?;
+    parts.room(&mut verdict)?;
+    parts.room(&mut settled)?;
     parts.end()?;
     let verdict = verdict.lent()?;
     let settled = settled.lent()?;
     let answered = judged::judge(
-        circuit.counts,
-        circuit.table.given()?,
+        counts,
+        table.given()?,
         cubes.given()?,
         n,
         j,
@@ -111,15 +125,18 @@ fn judge_vector(answer: Answer, mut parts: Parts) -> Result<(), Complaint> {
 }
 
 fn cover_vector(answer: Answer, mut parts: Parts) -> Result<(), Complaint> {
-    let circuit = parts.circuit()?;
-    let cubes: Bytes = parts.list()?;
+    let mut table = Words::new();
+    let mut cubes = Bytes::new();
+    let mut verdict = Bytes::new();
+    let counts = parts.circuit(&mut table)?;
+    parts.list(&mut cubes)?;
     let n = parts.number()?;
-    let mut verdict: Bytes = parts.room()?;
+    parts.room(&mut verdict)?;
     parts.end()?;
     let verdict = verdict.lent()?;
     let answered = CoverAnswer::from(sent::cover(
-        circuit.counts,
-        circuit.table.given()?,
+        counts,
+        table.given()?,
         cubes.given()?,
         n,
         verdict,
@@ -133,20 +150,18 @@ fn cover_vector(answer: Answer, mut parts: Parts) -> Result<(), Complaint> {
 
 // ---- why, merge
 
+#[inline(never)] // else its buffers lie on the stack beneath those of every other vector
 fn why_vector(answer: Answer, mut parts: Parts) -> Result<(), Complaint> {
-    let circuit = parts.circuit()?;
-    let state: Bytes = parts.list()?;
+    let mut table = Words::new();
+    let mut state = Bytes::new();
+    let mut why = Bytes::new();
+    let counts = parts.circuit(&mut table)?;
+    parts.list(&mut state)?;
     let lamp = parts.number()?;
-    let mut why: Bytes = parts.room()?;
+    parts.room(&mut why)?;
     parts.end()?;
     let why = why.lent()?;
-    let answered = why::why(
-        circuit.counts,
-        circuit.table.given()?,
-        state.given()?,
-        lamp,
-        why,
-    );
+    let answered = why::why(counts, table.given()?, state.given()?, lamp, why);
     answer.refused(answered.err());
     answer.elements("why", why);
     answer.ends();
@@ -154,10 +169,13 @@ fn why_vector(answer: Answer, mut parts: Parts) -> Result<(), Complaint> {
 }
 
 fn merge_vector(answer: Answer, mut parts: Parts) -> Result<(), Complaint> {
+    let mut a = Bytes::new();
+    let mut b = Bytes::new();
+    let mut merged = Bytes::new();
     let fields = parts.number()?;
-    let a: Bytes = parts.list()?;
-    let b: Bytes = parts.list()?;
-    let mut merged: Bytes = parts.room()?;
+    parts.list(&mut a)?;
+    parts.list(&mut b)?;
+    parts.room(&mut merged)?;
     parts.end()?;
     let merged = merged.lent()?;
     let answered = merging::merge(fields, a.given()?, b.given()?, merged);

@@ -26,8 +26,10 @@ fn read_vector<F: Fn(&[u8], &mut [u16]) -> Result<Counts, Refusal>>(
 ) -> Result<(), Complaint>
     requires { F.IsAlwaysCallable read }
 {
-    let mut table: Words = parts.room()?;
-    let text = parts.text()?;
+    let mut table = Words::new();
+    let mut text = Bytes::new();
+    parts.room(&mut table)?;
+    parts.text(&mut text)?;
     let table = table.lent()?;
     let answered = read(text.given()?, table);
     answer.refused(answered.err());
@@ -40,9 +42,12 @@ fn read_vector<F: Fn(&[u8], &mut [u16]) -> Result<Counts, Refusal>>(
 // ---- any
 
 fn any_vector(answer: Answer, mut parts: Parts) -> Result<(), Complaint> {
-    let mut table: Words = parts.room()?;
-    let mut renumbered: Words = parts.room()?;
-    let text = parts.text()?;
+    let mut table = Words::new();
+    let mut renumbered = Words::new();
+    let mut text = Bytes::new();
+    parts.room(&mut table)?;
+    parts.room(&mut renumbered)?;
+    parts.text(&mut text)?;
     let table = table.lent()?;
     let renumbered = renumbered.lent()?;
     let answered = anyorder::read_any(text.given()?, table, renumbered);
@@ -64,11 +69,13 @@ fn write_vector<F: Fn(Counts, &[u16], &mut [u8]) -> Result<usize, Refusal>>(
 ) -> Result<(), Complaint>
     requires { F.IsAlwaysCallable write }
 {
-    let circuit = parts.circuit()?;
-    let mut text: Bytes = parts.room()?;
+    let mut table = Words::new();
+    let mut text = Bytes::new();
+    let counts = parts.circuit(&mut table)?;
+    parts.room(&mut text)?;
     parts.end()?;
     let text = text.lent()?;
-    let answered = write(circuit.counts, circuit.table.given()?, text);
+    let answered = write(counts, table.given()?, text);
     answer.refused(answered.err());
     answer.number("bytes", answered.unwrap_or(0));
     answer.elements("text", text);

@@ -1,7 +1,7 @@
 -- The report from what the run answers: the records that the program lends are long enough for any circuit. Assumes nothing.
 use mathlib.Core.Path.{◌≡◌, sym, ap, ◌∙◌}
 use mathlib.Core.List.{List, ◌++◌}
-use Prim.Native.Nat.{ℕ, ◌+◌, ◌≤◌}
+use Prim.Native.Nat.{ℕ, ◌+◌, ◌*◌, ◌≤◌}
 use native.Mathlib.Nat.{zero-add}
 use native.Mathlib.Omega.{arith}
 use borrow.Author.Tests.{eq-eqb, ne_eqb}
@@ -60,6 +60,11 @@ pub rows_put : {d e f g h : List ℕ} {p q r s : ℕ} (line : List ℕ) (lamps b
     → Put d 0 (line ++ (rows Row.Lamp 0 (take lamps (unpack (lamps + bads) verdict)) ++ (rows Row.Bad 0 (drop lamps (unpack (lamps + bads) verdict)) ++ rows Row.Latch 0 (unpack latches settled)))) h s
 rows_put line lamps bads latches verdict settled opens lit bad kept =
     put_then opens (put_then (rw (first_fields lamps bads verdict) at lit) (put_then bad (rw (zero-add latches) at kept)))
+
+-- the report on any circuit has room, as have its verdicts and settled values: what `put_stopped` asks, at any call. The refusal stands first, since `grind` finds the law by it
+pub report_room : (counts : Counts) (table : List ℕ) → 0 ≡ refusal (circuit_tests counts table)
+    → (refusal (circuit_tests counts table) ≡ 0) × (100 + 34 * verdicts counts + 34 * counts.latches ≤ 22000) × (counts.lamps ≤ 64) × (verdicts counts ≤ 4 * 32) × (counts.latches ≤ 4 * 128)
+report_room counts table accepts = omega (arith, accepts, (legal counts table accepts).bounded)
 
 module _ (counts : Counts) (table : List ℕ) (accepts : 0 ≡ refusal (circuit_tests counts table)) (cubes : List ℕ) (c : length cubes ≡ 65536) where
   abbrev given : ChainGiven

@@ -77,6 +77,7 @@ fn put_stopped(
 }
 
 // The report on a circuit that was read. What the chain leaves is never refused by the judge.
+#[tactic(auto, using(crate::proofs::Reporting::report_room))]
 fn report_run(counts: Counts, table: &[u16], out: &mut [u8; REPORT_BYTES]) -> usize
     requires { 0 ≡ refusal (circuit_tests counts table.now) }
     ensures { Put out.old 0 (of_run run_report (record { counts = counts; words = table.now })) out.new result × (result ≤ length out.old) }

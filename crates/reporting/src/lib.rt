@@ -1,13 +1,12 @@
 // What the programs that report on a circuit share (specification, 6): the text on standard input, and the line on a refusal.
 #![tactic(auto)]
 
-ghost use Rattle.std.specs.Prelude.{◌≡◌, ◌≤◌, Err, IfOk, length};
+ghost use Rattle.std.specs.Prelude.{◌≡◌, ◌≤◌, Err, IfErr, IfOk, length};
 ghost use Rattle.putting.specs.PutInCode.{Put};
 ghost use Rattle.cubes.specs.Answers.{chain_answer};
 ghost use Rattle.reporting.specs.Reporting.{refusing};
 
 use cubes::ChainRefusal;
-use std::io;
 use std::io::{Read, Stderr, Stdin};
 
 // The table of any circuit fits: 2 × 512 + 3 × 64 + 2 × 3,327 words.
@@ -46,13 +45,22 @@ pub fn complain(errors: Stderr, why: &[u8]) {
     let _ = errors.write_all(why);
 }
 
-// The text to its end, or as much of it as the buffer holds: how many bytes. A read that fails is no end of the text.
-pub fn take_text(mut input: Stdin, text: &mut [u8]) -> io::Result<usize>
-    ensures { IfOk result (λ bytes. bytes ≤ length text.old) }
+// A read that failed, behind so many bytes: it is no end of the text.
+#[derive(Clone, Copy)]
+pub struct Unread {
+    pub bytes: usize,
+}
+
+// The text to its end, or as much of it as the buffer holds: how many bytes.
+pub fn take_text(mut input: Stdin, text: &mut [u8]) -> Result<usize, Unread>
+    ensures taken { IfOk result (λ bytes. bytes ≤ length text.old) }
+    ensures failed { IfErr result (λ unread. unread.bytes ≤ length text.old) }
 {
     let mut bytes = 0;
     while bytes < text.len() {
-        let more = input.read(&mut text[bytes..])?;
+        let Ok(more) = input.read(&mut text[bytes..]) else {
+            return Err(Unread { bytes });
+        };
         if more == 0 {
             break;
         }

@@ -7,12 +7,18 @@ use lib.ListN.{length}
 use lib.Seq.{sets, sets-eq, take-length, length-sets}
 use borrow.Rule.Slice.PartMut.{put_mid}
 use Rattle.std.proofs.lemmas.Slice.{put_mid-paste}
+use Rattle.three.proofs.Loops.{Stored, stored_last}
 use Rattle.three.specs.Value.{decode}
 use Rattle.text.specs.Decimal.{decimal}
 use Rattle.putting.specs.PutInCode.{Put}
 use Rattle.text.proofs.Decimals.{length_below}
 use Rattle.putting.proofs.Putting.{put_then}
 use Rattle.rows.specs.Rows.{item, said}
+
+-- a text that is stored whole is put
+pub stored_put : (out : List ℕ) (at : ℕ) (text : List ℕ) (e : List ℕ) (i : ℕ) → at + length text ≤ length out
+    → Stored out at text (length text) e i → length text ≤ i → Put out at text e (at + length text)
+stored_put out at text e i room s h = record { same = stored_last out at text (length text) e i s h ∙ rw take-length (sym (sets-eq text out at room)); after = refl; long = s.long }
 
 -- a text that is copied over a part is put
 pub copied_put : (out : List ℕ) (at : ℕ) (text copy : List ℕ) → at + length text ≤ length out → copy ≡ text → Put out at text (put_mid at (at + length text - at) out copy) (at + length text)

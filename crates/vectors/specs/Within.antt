@@ -2,5 +2,5 @@
 use Rattle.std.specs.Prelude.{◌≡◌, ℕ, ◌≤◌, List, length, take}
 
 -- the buffer has so many; the second part follows from the first
-abbrev pub Within : ℕ → List ℕ → Type 0
+abbrev pub Within : {A : Type 0} → ℕ → List A → Type 0
 Within n xs = (n ≤ length xs) × (n ≡ length (take n xs))

@@ -2,20 +2,13 @@
 ghost use Rattle.std.specs.Prelude.{◌<◌, length, IfSome};
 
 use crate::Complaint;
-use crate::room::{Buffer, Bytes, Element, Words};
+use crate::room::{Buffer, Bytes, Element, Words, within};
 use circuit::Counts;
 
 // What lies behind the parts that were read: nothing, or a space and the next part.
 #[derive(Clone, Copy)]
 pub struct Parts<'a> {
     rest: &'a [u8],
-}
-
-// The counts, I L O A B C, and the table with its length in front of it.
-#[derive(Clone, Copy)]
-pub struct Circuit {
-    pub counts: Counts,
-    pub table: Words,
 }
 
 impl<'a> Parts<'a> {
@@ -47,26 +40,31 @@ impl<'a> Parts<'a> {
         self.next().and_then(number_of).ok_or(Complaint::NotAVector)
     }
 
-    // A buffer to lend, by its length.
-    pub fn room<T: Element, const N: usize>(&mut self) -> Result<Buffer<T, N>, Complaint> {
-        Ok(Buffer::new(T::UNTOUCHED, self.number()?))
+    // How much of a buffer is lent.
+    pub fn room<T, const N: usize>(&mut self, room: &mut Buffer<T, N>) -> Result<(), Complaint> {
+        room.length = self.number()?;
+        Ok(())
     }
 
     // As many elements as the number in front of them says. One that there is no room for is passed over; its vector is
     // too large.
-    pub fn list<T: Element, const N: usize>(&mut self) -> Result<Buffer<T, N>, Complaint> {
+    pub fn list<T: Element, const N: usize>(
+        &mut self,
+        list: &mut Buffer<T, N>,
+    ) -> Result<(), Complaint> {
         let length = self.number()?;
-        let mut list = Buffer::new(T::UNTOUCHED, length);
+        list.length = length;
         for i in 0..length {
             let element = T::from_number(self.number()?).ok_or(Complaint::NotAVector)?;
             if let Some(place) = list.elements.get_mut(i) {
                 *place = element;
             }
         }
-        Ok(list)
+        Ok(())
     }
 
-    pub fn circuit(&mut self) -> Result<Circuit, Complaint> {
+    // The counts, I L O A B C, and the table with its length in front of it.
+    pub fn circuit(&mut self, table: &mut Words) -> Result<Counts, Complaint> {
         let counts = Counts {
             inputs: self.number()?,
             latches: self.number()?,
@@ -75,20 +73,20 @@ impl<'a> Parts<'a> {
             bads: self.number()?,
             constraints: self.number()?,
         };
-        Ok(Circuit {
-            counts,
-            table: self.list()?,
-        })
+        self.list(table)?;
+        Ok(counts)
     }
 
     // The length of a text, and the text behind one more space, or no text where the line ends. What has no room there
     // is cut, and behind it is `x`.
-    pub fn text(mut self) -> Result<Bytes, Complaint> {
-        let mut text = Buffer::new(b'x', self.number()?);
+    pub fn text(mut self, text: &mut Bytes) -> Result<(), Complaint> {
+        text.length = self.number()?;
+        let front = within(text.length, &text.elements);
+        text.elements[..front].fill(b'x');
         if let Some(spelled) = self.rest.strip_prefix(b" ") {
             unspell(spelled, &mut text.elements).ok_or(Complaint::NotAVector)?;
         }
-        Ok(text)
+        Ok(())
     }
 
     // The line has nothing behind these parts.

@@ -1,5 +1,6 @@
 // Room for what a vector gives and lends.
-ghost use Rattle.std.specs.Prelude.{◌≡◌, length, IfOk};
+ghost use Rattle.std.specs.Prelude.{◌≡◌, ◌≤◌, length, IfOk};
+ghost use Rattle.vectors.specs.Within.{Within};
 
 use crate::Complaint;
 use std::io::Stdout;
@@ -45,6 +46,14 @@ pub fn filled<T: Copy, const N: usize>(element: T) -> [T; N]
     [element; N]
 }
 
+// As many elements of a buffer as a vector says, and all where it has fewer.
+pub fn within<T>(count: usize, buffer: &[T]) -> usize
+    ensures room { Within result buffer.now }
+    ensures said { result ≤ count }
+{
+    count.min(buffer.len())
+}
+
 // At most N elements, of which a vector gives or lends as many as it says at the front.
 #[derive(Clone, Copy)]
 pub struct Buffer<T, const N: usize> {
@@ -57,25 +66,36 @@ pub type Bytes = Buffer<u8, 66_000>;
 
 pub type Words = Buffer<u16, 8_192>;
 
-impl<T: Copy, const N: usize> Buffer<T, N> {
-    pub(crate) fn new(element: T, length: usize) -> Self {
+impl<T: Element, const N: usize> Buffer<T, N> {
+    // Nothing is given or lent of it until a part says how much.
+    pub fn new() -> Self
+        ensures { result.length ≡ 0 }
+    {
         Buffer {
-            elements: filled(element),
-            length,
+            elements: filled(T::UNTOUCHED),
+            length: 0,
         }
     }
+}
 
+impl<T: Copy, const N: usize> Buffer<T, N> {
     pub fn given(&self) -> Result<&[T], Complaint>
         ensures { IfOk result (λ front. length front.now ≡ self.now.length) }
     {
-        self.elements.get(..self.length).ok_or(Complaint::TooLarge)
+        let front = within(self.length, &self.elements);
+        if front < self.length {
+            return Err(Complaint::TooLarge);
+        }
+        Ok(&self.elements[..front])
     }
 
     pub fn lent(&mut self) -> Result<&mut [T], Complaint>
         ensures { IfOk result (λ front. length front.now ≡ self.old.length) }
     {
-        let elements = &mut self.elements;
-        let all = &mut elements[..];
-        all.get_mut(..self.length).ok_or(Complaint::TooLarge)
+        let front = within(self.length, &self.elements);
+        if front < self.length {
+            return Err(Complaint::TooLarge);
+        }
+        Ok(&mut self.elements[..front])
     }
 }

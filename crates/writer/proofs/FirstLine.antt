@@ -3,14 +3,16 @@ use mathlib.Core.Path.{◌≡◌, refl, sym, ap, ◌∙◌}
 use mathlib.Core.List.{List, [], ◌∷◌, ◌++◌, append_assoc}
 use Prim.Native.Nat.{ℕ, zero, suc, ◌+◌, ◌≤◌}
 use native.Mathlib.Omega.{arith}
-use lib.ListN.{length, length-append, drop, length-drop}
-use Rattle.three.specs.Lists.{over}
+use lib.ListN.{length, length-append, get_or, set, length-set, drop, length-drop}
+use lib.Seq.{sets}
+use Rattle.three.specs.Lists.{tabulate, over}
 use Rattle.circuit.specs.declared.Counts.{Counts}
 use Rattle.circuit.specs.RulesInCode.{Bounded}
 use Rattle.circuit.specs.Table.{variables}
 use Rattle.text.specs.Decimal.{decimal}
 use Rattle.text.specs.Line.{line_text, ended_line}
 use Rattle.text.specs.Text.{further_numbers, head_numbers}
+use Rattle.text.proofs.Spelling.{listed}
 use Rattle.text.proofs.Stores.{sets_front}
 use Rattle.putting.specs.PutInCode.{Put}
 use Rattle.writer.specs.declared.LineNumbers.{LineNumbers}
@@ -64,7 +66,12 @@ module _ (c : Counts) where
   pub head_length : length (line_text (head_numbers c)) ≡ 1 + length (decimal (variables c)) + length (line_text (count_numbers c))
   head_length = ap length (head_text []) ∙ simp length-append (omega arith)
 
--- the four bytes in front of it
-pub four_put : (d m : List ℕ) → length m ≡ 4 → 4 ≤ length d → Put d 0 m (m ++ drop 4 d) 4
+-- the four bytes in front of it, one by one
+pub four_put : (d m : List ℕ) → length m ≡ 4 → Put d 0 m (set (set (set (set d 0 (get_or m 0 0)) 1 (get_or m 1 0)) 2 (get_or m 2 0)) 3 (get_or m 3 0)) 4
+unfolding tabulate
+four_put d m h = record { same = ap (λ (l : List ℕ). sets d 0 l) (sym (listed 4 m h)); after = omega arith; long = simp length-set }
+
+-- the same, copied as a whole
+pub magic_put : (d m : List ℕ) → length m ≡ 4 → 4 ≤ length d → Put d 0 m (m ++ drop 4 d) 4
 unfolding over
-four_put d m h k = record { same = sym (sets_front d m (omega arith) ∙ rw h); after = omega arith; long = simp (length-append, length-drop) (omega arith) }
+magic_put d m h k = record { same = sym (sets_front d m (omega arith) ∙ rw h); after = omega arith; long = simp (length-append, length-drop) (omega arith) }

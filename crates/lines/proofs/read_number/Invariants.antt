@@ -4,8 +4,8 @@ use lib.ListN.{length}
 use Rattle.lines.proofs.Numbers.{Digits}
 use Rattle.lines.proofs.read_number.Given as goal
 
-abbrev pub invariant-loop-digit : goal.invariant-loop-digit
-invariant-loop-digit l = Digits l.text l.at l.value l.next
+abbrev pub invariant-loop-byte : goal.invariant-loop-byte
+invariant-loop-byte l = Digits l.text l.at l.value l.next
 
-abbrev pub decreases-loop-digit : goal.decreases-loop-digit
-decreases-loop-digit l = length l.text - l.next
+abbrev pub decreases-loop-byte : goal.decreases-loop-byte
+decreases-loop-byte l = length l.text - l.next

@@ -1,9 +1,7 @@
 -- `reported::report_run` meets its contract: what the chain refuses, and what has stopped and is judged. Assumes nothing.
 use mathlib.Core.Path.{refl}
 use Prim.Native.Nat.{ℕ}
-use native.Mathlib.Omega.{arith}
 use lib.ListN.{length-replicate}
-use Rattle.circuit.proofs.Legality.{legal}
 use Rattle.reporting.proofs.Reading.{put_is}
 use Rattle.reporting.proofs.Running.{chain_refused, chain_numbered, answers_ok}
 use Rattle.reported.specs.Report.{run_report}
@@ -17,10 +15,6 @@ returns-in-Err c =
 
 pub unwrap-s-requires : goal.unwrap-s-requires
 unwrap-s-requires c = answers_ok _ (never_refused _ _ c.requires _ (length-replicate {A = ℕ} 65536 0) c.in-Ok.ensures.0 refl _ _ refl refl c.judge.ensures.0)
-
-pub put_stopped-requires : goal.put_stopped-requires
-put_stopped-requires c =
-    omega (arith, (legal c.args.counts c.args.table.now c.requires).bounded)
 
 pub returns : goal.returns
 returns c =
