@@ -50,6 +50,7 @@ pub fn filled<T: Copy, const N: usize>(element: T) -> [T; N]
 pub fn within<T>(count: usize, buffer: &[T]) -> usize
     ensures room { Within result buffer.now }
     ensures said { result ≤ count }
+    ensures all { count ≤ length buffer.now → result ≡ count }
 {
     count.min(buffer.len())
 }
