@@ -33,7 +33,7 @@ fn main(rt: HostRuntime) {
     let input = rt.stdin();
     let errors = rt.stderr();
     let mut binary = [0u8; DECIDING_BYTES];
-    let Ok(bytes) = reporting::take_text(input, &mut binary) else {
+    let Ok(bytes) = reporting::take_text_counted(input, &mut binary) else {
         complain(
             errors,
             b"converter: standard input was not read to its end\n",

@@ -19,7 +19,7 @@ fn main(rt: HostRuntime) {
     let input = rt.stdin();
     let errors = rt.stderr();
     let mut text = [0u8; DECIDING_BYTES];
-    let Ok(bytes) = reporting::take_text(input, &mut text) else {
+    let Ok(bytes) = reporting::take_text_counted(input, &mut text) else {
         complain(errors, b"report: standard input was not read to its end\n");
         return;
     };

@@ -7,6 +7,7 @@ ghost use Rattle.cubes.specs.Answers.{chain_answer};
 ghost use Rattle.reporting.specs.Reporting.{refusing};
 
 use cubes::ChainRefusal;
+use std::io;
 use std::io::{Read, Stderr, Stdin};
 
 // The table of any circuit fits: 2 × 512 + 3 × 64 + 2 × 3,327 words.
@@ -45,14 +46,29 @@ pub fn complain(errors: Stderr, why: &[u8]) {
     let _ = errors.write_all(why);
 }
 
+// The text to its end, or as much of it as the buffer holds: how many bytes. A read that fails is no end of the text.
+pub fn take_text(mut input: Stdin, text: &mut [u8]) -> io::Result<usize>
+    ensures { IfOk result (λ bytes. bytes ≤ length text.old) }
+{
+    let mut bytes = 0;
+    while bytes < text.len() {
+        let taken = input.read(&mut text[bytes..])?;
+        if taken == 0 {
+            break;
+        }
+        bytes += taken;
+    }
+    Ok(bytes)
+}
+
 // A read that failed, behind so many bytes: it is no end of the text.
 #[derive(Clone, Copy)]
 pub struct Unread {
     pub bytes: usize,
 }
 
-// The text to its end, or as much of it as the buffer holds: how many bytes.
-pub fn take_text(mut input: Stdin, text: &mut [u8]) -> Result<usize, Unread>
+// The same where nobody asks why a read failed: how many bytes were taken before it, in place of the system's error.
+pub fn take_text_counted(mut input: Stdin, text: &mut [u8]) -> Result<usize, Unread>
     ensures taken { IfOk result (λ bytes. bytes ≤ length text.old) }
     ensures failed { IfErr result (λ unread. unread.bytes ≤ length text.old) }
 {

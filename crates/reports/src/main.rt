@@ -133,7 +133,7 @@ fn room_for_stream() -> [u8; MOST_STREAM]
 fn main(rt: HostRuntime) {
     let errors = rt.stderr();
     let mut stream = room_for_stream();
-    let Ok(bytes) = reporting::take_text(rt.stdin(), &mut stream) else {
+    let Ok(bytes) = reporting::take_text_counted(rt.stdin(), &mut stream) else {
         complain(errors, b"reports: standard input was not read to its end\n");
         return;
     };

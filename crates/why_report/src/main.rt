@@ -263,7 +263,7 @@ fn main(rt: HostRuntime) {
         return;
     };
     let mut text = [0u8; DECIDING_BYTES];
-    let Ok(bytes) = reporting::take_text(rt.stdin(), &mut text) else {
+    let Ok(bytes) = reporting::take_text_counted(rt.stdin(), &mut text) else {
         complain(
             errors,
             b"why_report: standard input was not read to its end\n",
