@@ -1,4 +1,4 @@
-// Tries `reporting::take_text`, which no other program here calls: how many bytes it took of standard input, or the system's error.
+// Tries `reporting::take_text`, which no other program here calls: how many bytes it took, or the number of the system's error.
 #![tactic(auto)]
 
 use reporting::DECIDING_BYTES;
@@ -10,7 +10,8 @@ fn main(rt: HostRuntime) {
             let _ = println!(rt; "{bytes} bytes");
         }
         Err(error) => {
-            let _ = eprintln!(rt; "taking: {error}");
+            let number = error.raw_os_error().unwrap_or(0);
+            let _ = eprintln!(rt; "taking: os error {number}");
         }
     }
 }
